@@ -1,0 +1,4 @@
+pub mod Tests
+pub mod Place
+pub mod Applied
+pub mod Commute

@@ -1,0 +1,13 @@
+pub mod Operand
+pub mod State
+pub mod Effect
+pub mod Enable
+pub mod Mac16
+pub mod Vecint
+pub mod Call
+pub mod Answers
+pub mod Step
+pub mod Normal
+pub mod Swap
+pub mod Demands
+pub mod Edges

@@ -1,0 +1,85 @@
+-- The normal operand: the operand with its ignored bits cleared.
+-- Assumes nothing.
+use mathlib.Core.Bool.{Bool, true, cond, not, _&&_}
+use mathlib.Core.List.{List, [], _∷_, _++_}
+use Prim.Native.Nat.{ℕ}
+use lib.Dec.{eqb}
+use Rattle.isa.specs.declared.Answer.{Answer}
+use Rattle.isa.specs.declared.Answer.the-variants.{Done, NoOp, Refused}
+use Rattle.isa.specs.declared.Normal.{Normal}
+use Rattle.isa.specs.declared.Normal.the-variants as normal
+use Rattle.isa.specs.Operand.{bit, cleared}
+use Rattle.isa.specs.State.{stateLength}
+use Rattle.isa.specs.Mac16 as Mac16
+use Rattle.isa.specs.Vecint as Vecint
+use Rattle.isa.specs.Call.{Call, call, isMac16}
+use Rattle.isa.specs.Answers.{answerOf}
+
+-- bits first to last, ignored on a condition
+pub record Ignored : Type 0 where
+  pub if : Bool
+  pub first : ℕ
+  pub last : ℕ
+
+abbrev also : Bool → ℕ → ℕ → Ignored
+also condition first last = record { if = condition; first = first; last = last }
+
+abbrev always : ℕ → ℕ → Ignored
+always = also true
+
+-- mac16, "Ignored: 48..54, 39..40, 30..31, 26, 19, 9"
+abbrev pub ignoredByAll : List Ignored
+ignoredByAll = always 48 54 ∷ always 39 40 ∷ always 30 31 ∷ always 26 26 ∷ always 19 19 ∷ always 9 9 ∷ []
+
+-- "vector also 62 and 32..38; matrix 16 also 21..25; matrix 32 also 20..25."
+abbrev pub ignoredByForm : Mac16.Form → List Ignored
+ignoredByForm Mac16.vector = always 62 62 ∷ always 32 38 ∷ []
+ignoredByForm Mac16.matrix16 = always 21 25 ∷ []
+ignoredByForm Mac16.matrix32 = always 20 25 ∷ []
+
+abbrev pub mac16Ignored : ℕ → List Ignored
+mac16Ignored op = ignoredByAll ++ ignoredByForm (Mac16.formOf op)
+
+-- vecint, "Ignored (in done steps): 57, 46, 41, 19, 9; M1 also 31; several vectors also 35..40, and 24 if four; modes 5 and 6 also 58..62 and 42..45;
+-- mode 4 also 27, 28 and both offsets; outside mode 4, r = 2 also bit 20 and r = 4 also 20, 21."
+abbrev pub vecintIgnored : ℕ → ℕ → List Ignored
+vecintIgnored gen op =
+    always 57 57 ∷ always 46 46 ∷ always 41 41 ∷ always 19 19 ∷ always 9 9
+    ∷ also (eqb gen 1) 31 31
+    ∷ also (Vecint.several gen op) 35 40
+    ∷ also (Vecint.several gen op && bit op 25) 24 24
+    ∷ also (Vecint.saturates op) 58 62
+    ∷ also (Vecint.saturates op) 42 45
+    ∷ also (Vecint.reduces op) 27 28
+    ∷ also (Vecint.reduces op) 10 18
+    ∷ also (Vecint.reduces op) 0 8
+    ∷ also (not (Vecint.reduces op) && eqb (Vecint.rowsEach op) 2) 20 20
+    ∷ also (not (Vecint.reduces op) && eqb (Vecint.rowsEach op) 4) 20 21
+    ∷ []
+
+abbrev pub ignored : Call → List Ignored
+ignored c = cond (isMac16 c) (mac16Ignored (c .operand)) (vecintIgnored (c .generation) (c .operand))
+
+-- "The normal operand is the operand with these cleared."
+abbrev pub clearedAll : List Ignored → ℕ → ℕ
+clearedAll [] op = op
+clearedAll (b ∷ bs) op = clearedAll bs (cond (b .if) (cleared op (b .first) (b .last)) op)
+
+unfoldable pub normalOperand : Call → ℕ
+normalOperand c = clearedAll (ignored c) (c .operand)
+
+-- "Asking for it takes generation, instruction and operand, and gives the step's own refusal or no-op where the step isn't done."
+-- There is no state, so none has the wrong length.
+abbrev pub instead : Answer → ℕ → Normal
+instead (Done lanes) op = normal.Operand op
+instead (NoOp r) op = normal.NoOp r
+instead (Refused r) op = normal.Refused r
+
+unfoldable pub normalOf : Call → Normal
+normalOf c = instead (answerOf stateLength c) (normalOperand c)
+
+-- the operand that is handed back: the normal one, or the operand as given where the step isn't done
+abbrev pub handedBack : ℕ → Normal → ℕ
+handedBack op (normal.Operand n) = n
+handedBack op (normal.NoOp r) = op
+handedBack op (normal.Refused r) = op
