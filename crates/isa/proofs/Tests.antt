@@ -11,6 +11,9 @@ is-true false t = absurd t
 pub true-is : {b : Bool} → b ≡ true → T b
 true-is e = subst T (sym e) tt
 
+pub true-false : true ≡ false → ⊥
+true-false e = subst T e tt
+
 pub is-false : (b : Bool) → (b ≡ true → ⊥) → b ≡ false
 is-false true f = absurd (f refl)
 is-false false f = refl
@@ -21,7 +24,7 @@ and-left false b t = t
 
 pub and-right : (a b : Bool) → a && b ≡ true → b ≡ true
 and-right true b t = t
-and-right false b t = let z : _≡_ {A = Bool} true b = cc in sym z
+and-right false b t = absurd (true-false (sym t))
 
 -- a test by its two outcomes, and two tests by their four
 pub two : (a : Bool) (P : Type 0) → (a ≡ true → P) → (a ≡ false → P) → P

@@ -1,0 +1,133 @@
+-- Both instructions are lawful: their lanes fill a row, and a call that is said to only add does.
+-- Assumes nothing.
+use mathlib.Core.Path.{_≡_, refl, sym, ap, _∙_, subst}
+use mathlib.Core.Bool.{Bool, true, false, cond, not, _&&_, _||_}
+use mathlib.Core.List.{List}
+use Prim.Native.Nat.{ℕ, _+_, _%_}
+use native.Mathlib.Nat.{mod-mod}
+use lib.Dec.{eqb}
+use borrow.Author.Tests.{eqb-true, not-true}
+use lib.IntN.{ℤ, pos, negℤ, _+ℤ_, _*ℤ_}
+use Rattle.number.specs.Bytes.{span}
+use Rattle.number.specs.Integers.{signed, wrap, _≫_}
+use Rattle.number.proofs.Modular.{adds-modulo}
+use Rattle.isa.specs.declared.Answer.{Answer}
+use Rattle.isa.specs.declared.Answer.the-variants.{Refused}
+use Rattle.isa.specs.declared.Refusal.the-variants.{StateLength}
+use Rattle.isa.specs.Operand.{bits, bit}
+use Rattle.isa.specs.Effect.{Effect, Fills, OnlyAdds}
+use Rattle.isa.specs.Mac16 as Mac16
+use Rattle.isa.specs.Vecint as Vecint
+use Rattle.isa.specs.Call.{Call, isMac16, effectOf}
+use Rattle.isa.specs.Answers.{answerOf, isDone}
+use Rattle.isa.specs.Step.{done}
+use Rattle.isa.proofs.Tests.{true-false, is-false, and-left, and-right, pick-false, either}
+
+-- ---- only a state of 5,120 bytes has done calls
+
+first-row : (b : Bool) (a : Answer) → isDone (cond (not b) (Refused StateLength) a) ≡ true → b ≡ true
+first-row true a t = refl
+first-row false a t = t
+
+pub whole : (n : ℕ) (c : Call) → done n c ≡ true → n ≡ 5120
+unfolding answerOf
+whole n c t = eqb-true n 5120 (first-row (eqb n 5120) _ t)
+
+-- ---- widths
+
+one : Fills 1
+one = (64, refl)
+
+half : Fills 2
+half = (32, refl)
+
+word : Fills 4
+word = (16, refl)
+
+mac16-fills : (form : Mac16.Form) → Fills (Mac16.zWidth form)
+mac16-fills Mac16.vector = half
+mac16-fills Mac16.matrix16 = half
+mac16-fills Mac16.matrix32 = word
+
+widths-fill : (n : ℕ) → Fills (Vecint.widthsBy n .z)
+unfolding Vecint.widthsBy
+widths-fill n =
+    let Z : Vecint.Widths → Type 0 = λ w. Fills (w .z) in
+    either Z (eqb n 3) word (either Z (eqb n 10) word (either Z (eqb n 11) half (either Z (eqb n 12) word (either Z (eqb n 13) word half))))
+
+reduction-fills : (n : ℕ) → Fills (Vecint.reductionBy n .z)
+unfolding Vecint.reductionBy
+reduction-fills n =
+    let Z : Vecint.Reduction → Type 0 = λ w. Fills (w .z) in
+    either Z (eqb n 3) word (either Z (eqb n 4) word (either Z (eqb n 9) one (either Z (eqb n 10) word (either Z (eqb n 11) half half))))
+
+vecint-fills : (op : ℕ) → Fills (Vecint.zWidth op)
+unfolding Vecint.zWidth Vecint.widths
+vecint-fills op =
+    either Fills (Vecint.reduces op) (reduction-fills (bits op 42 45))
+    (either (λ (w : Vecint.Widths). Fills (w .z)) (Vecint.saturates op) half (widths-fill (bits op 42 45)))
+
+pub fills : (c : Call) → Fills (effectOf c .width)
+fills c = either (λ (e : Effect). Fills (e .width)) (isMac16 c) (mac16-fills (Mac16.formOf (c .operand))) (vecint-fills (c .operand))
+
+-- ---- what only adds
+
+-- v added to a lane's signed number, at any width
+lane-adds : (b : ℕ) (v : ℤ) (z : ℕ) → wrap (span b) (signed b z +ℤ v) % span b ≡ (z + wrap (span b) v) % span b
+lane-adds b v z = ap (λ (x : ℕ). x % span b) (adds-modulo b z v) ∙ mod-mod (z + wrap (span b) v) (span b)
+
+mac16-result : (skip : Bool) → not skip ≡ true → (b : ℕ) (v : ℤ) (z : ℕ) → Mac16.result skip b v z % span b ≡ (z + wrap (span b) v) % span b
+unfolding Mac16.result
+mac16-result false t b v z = lane-adds b v z
+mac16-result true t b v z = absurd (true-false (sym t))
+
+mac16-adds : (op : ℕ) → Mac16.mac16 op .adds ≡ true → OnlyAdds (Mac16.mac16 op)
+mac16-adds op t xy row lane =
+    let form : Mac16.Form = Mac16.formOf op in
+    let v : ℤ = Mac16.shifted op (Mac16.xLane op xy (Mac16.iOf form row lane)) (Mac16.yLane op xy (Mac16.jOf form row lane)) in
+    (wrap (span (Mac16.zWidth form)) v, mac16-result (bit op 27) t (Mac16.zWidth form) v)
+
+-- a function of z adds a number that is not z's to say
+abbrev AddsTo : (ℤ → ℤ) → Type 0
+AddsTo f = (d : ℤ) × ((z : ℤ) → f z ≡ z +ℤ d)
+
+-- a row of the table of modes
+row : (b : Bool) {f g : ℤ → ℤ} → (b ≡ true → AddsTo f) → AddsTo g → AddsTo (λ z. cond b (f z) (g z))
+row true f g = f refl
+row false f g = g
+
+alu-adds : (m s : ℕ) (x y : ℤ) → Vecint.addingMode m ≡ true → AddsTo (Vecint.alu m s x y)
+unfolding Vecint.alu
+alu-adds m s x y t =
+    row (eqb m 0) (λ e. (((x *ℤ y) ≫ s), λ z. refl))
+    (row (eqb m 1) (λ e. (negℤ ((x *ℤ y) ≫ s), λ z. refl))
+    (row (eqb m 2) (λ e. (((x +ℤ y) ≫ s), λ z. refl))
+    (row (eqb m 3) (λ e. (negℤ ((x +ℤ y) ≫ s), λ z. refl))
+    (row (eqb m 5) (λ e. absurd (other 5 refl e))
+    (row (eqb m 6) (λ e. absurd (other 6 refl e))
+    (row (eqb m 10) (λ e. absurd (other 10 refl e))
+    (row (eqb m 11) (λ e. ((x ≫ s), λ z. refl))
+    ((y ≫ s), λ z. refl))))))))
+  where
+    other : (k : ℕ) → Vecint.addingMode k ≡ false → eqb m k ≡ true → ⊥
+    other k f e = true-false (sym t ∙ ap Vecint.addingMode (eqb-true m k e) ∙ f)
+
+vecint-adds : (gen op : ℕ) → Vecint.vecint gen op .adds ≡ true → OnlyAdds (Vecint.vecint gen op)
+unfolding Vecint.result
+vecint-adds gen op t xy row lane =
+    let m : ℕ = Vecint.mode op in
+    let w : ℕ = Vecint.zWidth op in
+    let v : ℕ = Vecint.vectorOf gen op row in
+    let k : ℕ = Vecint.kOf op row lane in
+    let adding : Vecint.addingMode m ≡ true = and-left (Vecint.addingMode m) (not (Vecint.forcesZero gen op)) t in
+    let kept : Vecint.forcesZero gen op ≡ false = not-true (Vecint.forcesZero gen op) (and-right (Vecint.addingMode m) (not (Vecint.forcesZero gen op)) t) in
+    let four : eqb m 4 ≡ false = is-false (eqb m 4) (λ e. true-false (sym adding ∙ ap Vecint.addingMode (eqb-true m 4 e))) in
+    let d : AddsTo (Vecint.alu m (Vecint.shift op) (Vecint.xOf gen op xy v k) (Vecint.yOf gen op xy v k)) =
+    alu-adds m (Vecint.shift op) (Vecint.xOf gen op xy v k) (Vecint.yOf gen op xy v k) adding
+    in
+    (wrap (span w) (d .0), λ z.
+    ap (λ (r : ℤ). wrap (span w) r % span w) (pick-false _ _ kept ∙ pick-false _ _ four ∙ d .1 (signed w z)) ∙ lane-adds w (d .0) z)
+
+pub added : (c : Call) → effectOf c .adds ≡ true → OnlyAdds (effectOf c)
+added c =
+    either (λ (e : Effect). e .adds ≡ true → OnlyAdds e) (isMac16 c) (mac16-adds (c .operand)) (vecint-adds (c .generation) (c .operand))
