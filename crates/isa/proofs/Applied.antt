@@ -39,7 +39,7 @@ pub in-z : (e : Effect) (p : ℕ) → touches e p ≡ true → 1024 ≤ p
 unfolding touches
 in-z e p t = leb-true 1024 p (and-left (leb 1024 p) (ltb p 5120) (and-left (inZ p) (e .on (rowAt p) (laneAt (e .width) p)) t))
 
-not-xy : (e : Effect) (p : ℕ) → p < 1024 → touches e p ≡ false
+pub not-xy : (e : Effect) (p : ℕ) → p < 1024 → touches e p ≡ false
 unfolding touches
 not-xy e p h = rw (lt-leb 1024 p h)
 

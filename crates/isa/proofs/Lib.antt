@@ -5,3 +5,4 @@ pub mod Commute
 pub mod Lawful
 pub mod Step
 pub mod Rearranged
+pub mod Count

@@ -1,0 +1,121 @@
+-- The answer's number: the enabled lanes, counted over all of Z, and their bytes.
+-- Assumes nothing.
+use mathlib.Core.Path.{_≡_, refl, sym, ap, ap₂, _∙_, subst}
+use mathlib.Core.Bool.{Bool, true, false, cond, not, _&&_}
+use mathlib.Core.List.{List, [], _∷_}
+use Prim.Native.Nat.{ℕ, zero, suc, _+_, _*_, _<_}
+use native.Mathlib.Nat.{add-zero, add-suc, suc-mul, mul-add, mul-comm, zero-mul, zero-add}
+use native.Mathlib.Omega.{arith}
+use lib.ListN.{length}
+use Rattle.isa.specs.declared.Answer.{Answer}
+use Rattle.isa.specs.declared.Answer.the-variants.{Done}
+use Rattle.isa.specs.State.{lanesOf, start}
+use Rattle.isa.specs.Effect.{Effect, Fills, touches, sum, count, lanesOn}
+use Rattle.isa.specs.Call.{Call, effectOf}
+use Rattle.isa.specs.Answers.{Row, rowsAbove, firstOf, answerOf, isDone}
+use Rattle.isa.specs.Demands.{Counted, DoneCounted}
+use Rattle.isa.proofs.Tests.{true-false, and-left, and-right, two, pick-true, pick-false}
+use Rattle.isa.proofs.Place.{lanes-fill, start-row, start-lane, start-in}
+use Rattle.isa.proofs.Applied.{not-xy, touches-in}
+use Rattle.isa.proofs.Lawful.{fills}
+
+-- ---- sums
+
+pub sum-cong : (f g : ℕ → ℕ) (n : ℕ) → ((k : ℕ) → k < n → f k ≡ g k) → sum f n ≡ sum g n
+unfolding sum
+sum-cong f g zero h = refl
+sum-cong f g (suc n) h = ap₂ _+_ (h n (omega arith)) (sum-cong f g n (λ k l. h k (omega arith)))
+
+pub sum-add : (f : ℕ → ℕ) (a b : ℕ) → sum f (a + b) ≡ sum f a + sum (λ k. f (a + k)) b
+unfolding sum
+sum-add f a zero = ap (sum f) (add-zero a) ∙ sym (add-zero (sum f a))
+sum-add f a (suc b) = ap (sum f) (add-suc a b) ∙ omega (arith, sum-add f a b)
+
+-- the same number each time
+pub sum-const : (c n : ℕ) → sum (λ k. c) n ≡ n * c
+unfolding sum
+sum-const c zero = omega arith
+sum-const c (suc n) = omega (arith, sum-const c n, suc-mul n c)
+
+pub sum-scale : (f : ℕ → ℕ) (c n : ℕ) → sum (λ k. c * f k) n ≡ c * sum f n
+unfolding sum
+sum-scale f c zero = omega arith
+sum-scale f c (suc n) = omega (arith, sum-scale f c n, mul-add c (f n) (sum f n))
+
+-- n groups of m
+pub sum-groups : (f : ℕ → ℕ) (n m : ℕ) → sum f (n * m) ≡ sum (λ i. sum (λ j. f (i * m + j)) m) n
+unfolding sum
+sum-groups f zero m = ap (sum f) (zero-mul m)
+sum-groups f (suc n) m = ap (sum f) (suc-mul n m) ∙ sum-add f (n * m) m ∙ omega (arith, sum-groups f n m)
+
+-- ---- the bytes of the enabled lanes
+
+module _ (e : Effect) (m : ℕ) (fit : m * e .width ≡ 64) where
+  -- 1 for a byte that is touched, and for a lane that is enabled
+  abbrev one : ℕ → ℕ
+  one p = cond (touches e p) 1 0
+
+  -- of a row, from its bytes to its lanes
+  row-bytes : (row : ℕ) → row < 64 → sum (λ j. one (1024 + (row * 64 + j))) 64 ≡ e .width * count (e .on row) m
+  row-bytes row h =
+      ap (sum (λ j. one (1024 + (row * 64 + j)))) (sym fit)
+      ∙ sum-groups (λ j. one (1024 + (row * 64 + j))) m (e .width)
+      ∙ sum-cong (λ l. sum (λ k. one (1024 + (row * 64 + (l * e .width + k)))) (e .width)) (λ l. e .width * cond (e .on row l) 1 0) m lane
+      ∙ sum-scale (λ l. cond (e .on row l) 1 0) (e .width) m
+    where
+      lane : (l : ℕ) → l < m → sum (λ k. one (1024 + (row * 64 + (l * e .width + k)))) (e .width) ≡ e .width * cond (e .on row l) 1 0
+      lane l hl =
+          sum-cong (λ k. one (1024 + (row * 64 + (l * e .width + k)))) (λ k. cond (e .on row l) 1 0) (e .width) byte
+          ∙ sum-const (cond (e .on row l) 1 0) (e .width)
+        where
+          byte : (k : ℕ) → k < e .width → one (1024 + (row * 64 + (l * e .width + k))) ≡ cond (e .on row l) 1 0
+          byte k hk =
+              let p : ℕ = start (e .width) row l + k in
+              let at : 1024 + (row * 64 + (l * e .width + k)) ≡ p = omega arith in
+              ap one at
+              ∙ ap (λ (t : Bool). cond t 1 0)
+              (touches-in e p (omega arith) (start-in (e .width) m fit row l hl k hk h)
+              ∙ ap₂ (λ (x y : ℕ). e .on x y) (start-row (e .width) m fit row l hl k hk) (start-lane (e .width) m fit row l hl k hk))
+
+  touched : count (touches e) 5120 ≡ lanesOn e * e .width
+  unfolding lanesOn
+  touched =
+      sum-add one 1024 4096
+      ∙ ap (λ (n : ℕ). n + sum (λ q. one (1024 + q)) 4096) none
+      ∙ zero-add (sum (λ q. one (1024 + q)) 4096)
+      ∙ sum-groups (λ q. one (1024 + q)) 64 64
+      ∙ sum-cong (λ row. sum (λ j. one (1024 + (row * 64 + j))) 64) (λ row. e .width * count (e .on row) (lanesOf (e .width))) 64
+      (λ row h. row-bytes row h ∙ ap (λ (n : ℕ). e .width * count (e .on row) n) (sym (lanes-fill (e .width) m fit)))
+      ∙ sum-scale (λ row. count (e .on row) (lanesOf (e .width))) (e .width) 64
+      ∙ mul-comm (e .width) (sum (λ row. count (e .on row) (lanesOf (e .width))) 64)
+    where
+      none : sum one 1024 ≡ 0
+      none = sum-cong one (λ k. 0) 1024 (λ p h. ap (λ (t : Bool). cond t 1 0) (not-xy e p h)) ∙ sum-const 0 1024
+
+-- ---- the answer
+
+-- no row above the last answers done
+Above : List Row → Type 0
+Above [] = Unit {0}
+Above (r ∷ rs) = (isDone (r .answer) ≡ false) × Above rs
+
+last-row : (rs : List Row) (m n : ℕ) → Above rs → firstOf rs (Done m) ≡ Done n → n ≡ m
+unfolding Above
+last-row [] m n a e = cc
+last-row (r ∷ rs) m n a e =
+    two (r .applies) (n ≡ m)
+    (λ t. absurd (true-false (sym (ap isDone (sym (pick-true (r .answer) (firstOf rs (Done m)) t) ∙ e)) ∙ a .0)))
+    (λ t. last-row rs m n (a .1) (sym (pick-false (r .answer) (firstOf rs (Done m)) t) ∙ e))
+
+pub done-lanes : (c : Call) (size n : ℕ) → answerOf size c ≡ Done n → n ≡ lanesOn (effectOf c)
+unfolding answerOf Above
+done-lanes c size n e =
+    last-row (rowsAbove size c) (lanesOn (effectOf c)) n (refl, (refl, (refl, (refl, (refl, (refl, (refl, tt))))))) e
+
+pub done-counted : DoneCounted
+done-counted c s n e =
+    let lanes : n ≡ lanesOn (effectOf c) = done-lanes c (length s) n e in
+    record {
+      lanes = lanes;
+      bytes = ap (λ (k : ℕ). k * effectOf c .width) lanes ∙ sym (touched (effectOf c) (fills c .0) (fills c .1));
+    }
