@@ -6,3 +6,4 @@ pub mod Lawful
 pub mod Step
 pub mod Rearranged
 pub mod Count
+pub mod Clear

@@ -1,6 +1,6 @@
 -- The normal operand: the operand with its ignored bits cleared.
 -- Assumes nothing.
-use mathlib.Core.Bool.{Bool, true, cond, not, _&&_}
+use mathlib.Core.Bool.{Bool, true, cond, _&&_}
 use mathlib.Core.List.{List, [], _∷_, _++_}
 use Prim.Native.Nat.{ℕ}
 use lib.Dec.{eqb}
@@ -41,7 +41,7 @@ abbrev pub mac16Ignored : ℕ → List Ignored
 mac16Ignored op = ignoredByAll ++ ignoredByForm (Mac16.formOf op)
 
 -- vecint, "Ignored (in done steps): 57, 46, 41, 19, 9; M1 also 31; several vectors also 35..40, and 24 if four; modes 5 and 6 also 58..62 and 42..45;
--- mode 4 also 27, 28 and both offsets; outside mode 4, r = 2 also bit 20 and r = 4 also 20, 21."
+-- mode 4 also 27, 28 and both offsets; outside mode 4, r = 2 also bit 20 and r = 4 also 20, 21." In mode 4 rowsEach is 1.
 abbrev pub vecintIgnored : ℕ → ℕ → List Ignored
 vecintIgnored gen op =
     always 57 57 ∷ always 46 46 ∷ always 41 41 ∷ always 19 19 ∷ always 9 9
@@ -53,8 +53,8 @@ vecintIgnored gen op =
     ∷ also (Vecint.reduces op) 27 28
     ∷ also (Vecint.reduces op) 10 18
     ∷ also (Vecint.reduces op) 0 8
-    ∷ also (not (Vecint.reduces op) && eqb (Vecint.rowsEach op) 2) 20 20
-    ∷ also (not (Vecint.reduces op) && eqb (Vecint.rowsEach op) 4) 20 21
+    ∷ also (eqb (Vecint.rowsEach op) 2) 20 20
+    ∷ also (eqb (Vecint.rowsEach op) 4) 20 21
     ∷ []
 
 abbrev pub ignored : Call → List Ignored
