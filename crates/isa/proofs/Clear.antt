@@ -117,24 +117,29 @@ bits-same (b ∷ bs) op j k t =
 -- ---- cleared twice
 
 -- the entries that apply are clear of those after them
-abbrev pub Separate : List Ignored → Type 0
-Separate [] = Unit {0}
-Separate (b ∷ bs) = (b .if ≡ true → T (clearOfAll (b .first) (b .last) bs)) × Separate bs
+abbrev pub separate : List Ignored → Bool
+separate [] = true
+separate (b ∷ bs) = (clearOfAll (b .first) (b .last) bs || not (b .if)) && separate bs
+
+unless : (a if : Bool) → T (a || not if) → if ≡ true → T a
+unless true if t e = tt
+unless false if t e = subst (λ (x : Bool). T (not x)) e t
 
 -- all the entries that apply are 0
 Zero : List Ignored → ℕ → Type 0
 Zero [] op = Unit {0}
 Zero (b ∷ bs) op = (b .if ≡ true → bits op (b .first) (b .last) ≡ 0) × Zero bs op
 
-zero-after : (bs : List Ignored) (op : ℕ) → Separate bs → Zero bs (clearedAll bs op)
+zero-after : (bs : List Ignored) (op : ℕ) → T (separate bs) → Zero bs (clearedAll bs op)
 unfolding Zero
 zero-after [] op a = tt
 zero-after (b ∷ bs) op a = (
   λ t.
-      bits-same bs (cond (b .if) (cleared op (b .first) (b .last)) op) (b .first) (b .last) (a .0 t)
+      bits-same bs (cond (b .if) (cleared op (b .first) (b .last)) op) (b .first) (b .last)
+      (unless (clearOfAll (b .first) (b .last) bs) (b .if) (first-of (clearOfAll (b .first) (b .last) bs || not (b .if)) (separate bs) a) t)
       ∙ ap (λ (x : ℕ). bits x (b .first) (b .last)) (pick-true (cleared op (b .first) (b .last)) op t)
       ∙ cleared-bits op (b .first) (b .last),
-  zero-after bs (cond (b .if) (cleared op (b .first) (b .last)) op) (a .1),
+  zero-after bs (cond (b .if) (cleared op (b .first) (b .last)) op) (second-of (clearOfAll (b .first) (b .last) bs || not (b .if)) (separate bs) a),
 )
 
 zero-same : (bs : List Ignored) (op : ℕ) → Zero bs op → clearedAll bs op ≡ op
@@ -146,5 +151,5 @@ zero-same (b ∷ bs) op z = ap (clearedAll bs) (one (b .if) (z .0)) ∙ zero-sam
     one true f = cleared-zero op (b .first) (b .last) (f refl)
     one false f = refl
 
-pub twice : (bs : List Ignored) (op : ℕ) → Separate bs → clearedAll bs (clearedAll bs op) ≡ clearedAll bs op
+pub twice : (bs : List Ignored) (op : ℕ) → T (separate bs) → clearedAll bs (clearedAll bs op) ≡ clearedAll bs op
 twice bs op a = zero-same bs (clearedAll bs op) (zero-after bs op a)

@@ -7,3 +7,5 @@ pub mod Step
 pub mod Rearranged
 pub mod Count
 pub mod Clear
+pub mod NormalMac16
+pub mod NormalVecint
