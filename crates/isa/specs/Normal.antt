@@ -42,20 +42,19 @@ mac16Ignored op = ignoredByAll ++ ignoredByForm (Mac16.formOf op)
 
 -- vecint, "Ignored (in done steps): 57, 46, 41, 19, 9; M1 also 31; several vectors also 35..40, and 24 if four; modes 5 and 6 also 58..62 and 42..45;
 -- mode 4 also 27, 28 and both offsets; outside mode 4, r = 2 also bit 20 and r = 4 also 20, 21." In mode 4 rowsEach is 1.
+abbrev pub vecintIgnoredIf : Bool → Bool → Bool → Bool → Bool → ℕ → List Ignored
+vecintIgnoredIf m1 several four saturates reduces r =
+    always 57 57 ∷ always 46 46 ∷ always 41 41 ∷ always 19 19 ∷ always 9 9
+    ∷ also m1 31 31
+    ∷ also several 35 40 ∷ also (several && four) 24 24
+    ∷ also saturates 58 62 ∷ also saturates 42 45
+    ∷ also reduces 27 28 ∷ also reduces 10 18 ∷ also reduces 0 8
+    ∷ also (eqb r 2) 20 20 ∷ also (eqb r 4) 20 21
+    ∷ []
+
 abbrev pub vecintIgnored : ℕ → ℕ → List Ignored
 vecintIgnored gen op =
-    always 57 57 ∷ always 46 46 ∷ always 41 41 ∷ always 19 19 ∷ always 9 9
-    ∷ also (eqb gen 1) 31 31
-    ∷ also (Vecint.several gen op) 35 40
-    ∷ also (Vecint.several gen op && bit op 25) 24 24
-    ∷ also (Vecint.saturates op) 58 62
-    ∷ also (Vecint.saturates op) 42 45
-    ∷ also (Vecint.reduces op) 27 28
-    ∷ also (Vecint.reduces op) 10 18
-    ∷ also (Vecint.reduces op) 0 8
-    ∷ also (eqb (Vecint.rowsEach op) 2) 20 20
-    ∷ also (eqb (Vecint.rowsEach op) 4) 20 21
-    ∷ []
+    vecintIgnoredIf (eqb gen 1) (Vecint.several gen op) (bit op 25) (Vecint.saturates op) (Vecint.reduces op) (Vecint.rowsEach op)
 
 abbrev pub ignored : Call → List Ignored
 ignored c = cond (isMac16 c) (mac16Ignored (c .operand)) (vecintIgnored (c .generation) (c .operand))
