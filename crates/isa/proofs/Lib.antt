@@ -9,3 +9,4 @@ pub mod Count
 pub mod Clear
 pub mod NormalMac16
 pub mod NormalVecint
+pub mod NormalOperand

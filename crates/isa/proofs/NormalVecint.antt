@@ -36,22 +36,22 @@ rows-each op =
     (either R (eqb n 3) pair (either R (eqb n 10) quartet (either R (eqb n 11) pair (either R (eqb n 12) quartet (either R (eqb n 13) quartet (inl refl)))))))
 
 module _ (gen op : ℕ) where
-  abbrev entries : List Ignored
+  abbrev pub entries : List Ignored
   entries = vecintIgnored gen op
 
-  abbrev kept : ℕ
+  abbrev pub kept : ℕ
   kept = clearedAll entries op
 
-  same : (j k : ℕ) → T (clearOfAll j k entries) → bits kept j k ≡ bits op j k
+  pub same : (j k : ℕ) → T (clearOfAll j k entries) → bits kept j k ≡ bits op j k
   same j k t = bits-same entries op j k t
 
   -- ---- fields
 
-  mode-same : Vecint.mode kept ≡ Vecint.mode op
+  pub mode-same : Vecint.mode kept ≡ Vecint.mode op
   unfolding Vecint.mode
   mode-same = λ t. cond (eqb (same 53 53 tt t) 1) 0 (same 47 52 tt t)
 
-  reduces-same : Vecint.reduces kept ≡ Vecint.reduces op
+  pub reduces-same : Vecint.reduces kept ≡ Vecint.reduces op
   reduces-same = ap (λ (m : ℕ). eqb m 4) mode-same
 
   saturates-same : Vecint.saturates kept ≡ Vecint.saturates op

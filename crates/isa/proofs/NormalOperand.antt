@@ -1,0 +1,146 @@
+-- The normal operand gives the operand's answers and states, and is its own normal operand.
+-- Assumes nothing.
+use mathlib.Core.Path.{_≡_, refl, sym, ap, ap₂, _∙_, subst}
+use mathlib.Core.Bool.{Bool, true, false, cond, not, _&&_, _||_}
+use mathlib.Core.List.{List, [], _∷_}
+use Prim.Native.Nat.{ℕ}
+use lib.Dec.{leb, eqb}
+use lib.ListN.{length}
+use borrow.Author.Tests.{eqb-true}
+use Rattle.isa.specs.declared.Answer.{Answer}
+use Rattle.isa.specs.declared.Answer.the-variants.{Done, NoOp, Refused}
+use Rattle.isa.specs.declared.Normal.{Normal}
+use Rattle.isa.specs.declared.Normal.the-variants as normal
+use Rattle.isa.specs.Operand.{bits}
+use Rattle.isa.specs.State.{stateLength}
+use Rattle.isa.specs.Effect.{Effect, applied, lanesOn}
+use Rattle.isa.specs.Mac16 as Mac16
+use Rattle.isa.specs.Vecint as Vecint
+use Rattle.isa.specs.Call.{Call, call, isMac16, isVecint, effectOf}
+use Rattle.isa.specs.Answers.{Row, rowsAbove, firstOf, answerOf, isDone}
+use Rattle.isa.specs.Step.{stepped}
+use Rattle.isa.specs.Normal.{mac16Ignored, vecintIgnored, clearedAll, normalOperand, instead, normalOf}
+use Rattle.isa.specs.Demands.{NormalSame, NormalTwice, NormalAnswers}
+use Rattle.isa.proofs.Tests.{two, pick-true, pick-false}
+use Rattle.isa.proofs.NormalMac16.{mac16-same, mac16-twice}
+use Rattle.isa.proofs.NormalVecint as V′
+
+-- the call with its normal operand
+abbrev normalised : Call → Call
+normalised c = call (c .instruction) (c .generation) (normalOperand c)
+
+mac16-operand : (c : Call) → isMac16 c ≡ true → normalOperand c ≡ clearedAll (mac16Ignored (c .operand)) (c .operand)
+unfolding normalOperand
+mac16-operand c e = ap (λ (bs : _). clearedAll bs (c .operand)) (pick-true _ _ e)
+
+vecint-operand : (c : Call) → isMac16 c ≡ false → normalOperand c ≡ clearedAll (vecintIgnored (c .generation) (c .operand)) (c .operand)
+unfolding normalOperand
+vecint-operand c e = ap (λ (bs : _). clearedAll bs (c .operand)) (pick-false _ _ e)
+
+effect-same : (c : Call) → effectOf (normalised c) ≡ effectOf c
+effect-same c =
+    two (isMac16 c) (effectOf (normalised c) ≡ effectOf c)
+    (λ e. pick-true _ _ e ∙ ap Mac16.mac16 (mac16-operand c e) ∙ mac16-same (c .operand) ∙ sym (pick-true _ _ e))
+    (λ e. pick-false _ _ e ∙ ap (Vecint.vecint (c .generation)) (vecint-operand c e) ∙ V′.vecint-same (c .generation) (c .operand) ∙ sym (pick-false _ _ e))
+
+-- ---- the answer
+
+-- two tables of answers with the same rows
+Alike : List Row → List Row → Type 0
+Alike [] [] = Unit {0}
+Alike [] (q ∷ qs) = ⊥
+Alike (r ∷ rs) [] = ⊥
+Alike (r ∷ rs) (q ∷ qs) = ((r .applies ≡ q .applies) × (r .answer ≡ q .answer)) × Alike rs qs
+
+first-same : (rs qs : List Row) (a b : Answer) → Alike rs qs → a ≡ b → firstOf rs a ≡ firstOf qs b
+unfolding Alike
+first-same [] [] a b l e = e
+first-same [] (q ∷ qs) a b l e = absurd l
+first-same (r ∷ rs) [] a b l e = absurd l
+first-same (r ∷ rs) (q ∷ qs) a b l e = λ t. cond (l .0 .0 t) (l .0 .1 t) (first-same rs qs a b (l .1) e t)
+
+-- a test that is made for vecint alone, on two operands
+for-vecint : (c : Call) (p q : Bool) → (isMac16 c ≡ false → p ≡ q) → (isVecint c && p) ≡ (isVecint c && q)
+for-vecint c p q same =
+    two (isMac16 c) ((isVecint c && p) ≡ (isVecint c && q))
+    (λ e.
+    let no-vecint : isVecint c ≡ false = ap (λ (i : ℕ). eqb i 18) (eqb-true (c .instruction) 14 e) in
+    ap (λ (b : Bool). b && p) no-vecint ∙ sym (ap (λ (b : Bool). b && q) no-vecint))
+    (λ e. ap (λ (b : Bool). isVecint c && b) (same e))
+
+-- bits 27 to 30 count outside mode 4
+shuffles-same : (gen op : ℕ)
+    → (not (Vecint.reduces (V′.kept gen op)) && not (eqb (bits (V′.kept gen op) 27 30) 0)) ≡ (not (Vecint.reduces op) && not (eqb (bits op 27 30) 0))
+shuffles-same gen op =
+    two (Vecint.reduces op) ((not (Vecint.reduces (V′.kept gen op)) && not (eqb (bits (V′.kept gen op) 27 30) 0)) ≡ (not (Vecint.reduces op) && not (eqb (bits op 27 30) 0)))
+    (λ e.
+    ap (λ (b : Bool). not b && not (eqb (bits (V′.kept gen op) 27 30) 0)) (V′.reduces-same gen op ∙ e)
+    ∙ sym (ap (λ (b : Bool). not b && not (eqb (bits op 27 30) 0)) e))
+    (λ e. λ t. not (V′.reduces-same gen op t) && not (eqb (V′.same gen op 27 30 (rw e tt) t) 0))
+
+answer-same : (n : ℕ) (c : Call) → answerOf n (normalised c) ≡ answerOf n c
+unfolding answerOf Alike
+answer-same n c =
+    let g : ℕ = c .generation in
+    let op : ℕ = c .operand in
+    let by-mode : (f : ℕ → Bool) → (isVecint c && f (Vecint.mode (normalOperand c))) ≡ (isVecint c && f (Vecint.mode op)) =
+    λ f. for-vecint c (f (Vecint.mode (normalOperand c))) (f (Vecint.mode op))
+    (λ e. ap (λ (x : ℕ). f (Vecint.mode x)) (vecint-operand c e) ∙ ap f (V′.mode-same g op))
+    in
+    first-same (rowsAbove n (normalised c)) (rowsAbove n c) (Done (lanesOn (effectOf (normalised c)))) (Done (lanesOn (effectOf c)))
+    ((refl, refl), ((refl, refl), ((refl, refl),
+    ((for-vecint c _ _ (λ e. ap (λ (x : ℕ). not (eqb (bits x 54 56) 0)) (vecint-operand c e) ∙ ap (λ (x : ℕ). not (eqb x 0)) (V′.same g op 54 56 tt)), refl),
+    ((by-mode (λ m. leb 7 m && leb m 9 || leb 13 m), refl),
+    ((by-mode (λ m. leb 10 m && leb m 12 && eqb g 1), refl),
+    ((for-vecint c _ _ (λ e.
+    ap (λ (x : ℕ). eqb (bits x 53 53) 1 || not (Vecint.reduces x) && not (eqb (bits x 27 30) 0)) (vecint-operand c e)
+    ∙ (λ t. eqb (V′.same g op 53 53 tt t) 1 || shuffles-same g op t)), refl), tt)))))))
+    (ap (λ (e : Effect). Done (lanesOn e)) (effect-same c))
+
+step-same : (c : Call) (s : List ℕ) → stepped (normalised c) s ≡ stepped c s
+unfolding stepped
+step-same c s = λ t. cond (isDone (answer-same (length s) c t)) (applied (effect-same c t) s) s
+
+-- ---- the demands
+
+-- where there is a normal operand it is the call's
+is-normal : (c : Call) (op : ℕ) → normalOf c ≡ normal.Operand op → normalOperand c ≡ op
+unfolding normalOf
+is-normal c op e = go (answerOf stateLength c) e
+  where
+    go : (a : Answer) → instead a (normalOperand c) ≡ normal.Operand op → normalOperand c ≡ op
+    go (Done n) e = cc
+    go (NoOp r) e = cc
+    go (Refused r) e = cc
+
+pub normal-same : NormalSame
+normal-same c op e s =
+    subst (λ (x : ℕ). (answerOf (length s) (call (c .instruction) (c .generation) x) ≡ answerOf (length s) c) × (stepped (call (c .instruction) (c .generation) x) s ≡ stepped c s))
+    (is-normal c op e) (answer-same (length s) c, step-same c s)
+
+operand-twice : (c : Call) → normalOperand (normalised c) ≡ normalOperand c
+operand-twice c =
+    two (isMac16 c) (normalOperand (normalised c) ≡ normalOperand c)
+    (λ e.
+    mac16-operand (normalised c) e
+    ∙ ap (λ (x : ℕ). clearedAll (mac16Ignored x) x) (mac16-operand c e)
+    ∙ mac16-twice (c .operand) ∙ sym (mac16-operand c e))
+    (λ e.
+    vecint-operand (normalised c) e
+    ∙ ap (λ (x : ℕ). clearedAll (vecintIgnored (c .generation) x) x) (vecint-operand c e)
+    ∙ V′.vecint-twice (c .generation) (c .operand) ∙ sym (vecint-operand c e))
+
+pub normal-twice : NormalTwice
+normal-twice c op e =
+    subst (λ (x : ℕ). normalOf (call (c .instruction) (c .generation) x) ≡ normal.Operand x) (is-normal c op e) (once c ∙ e ∙ ap normal.Operand (sym (is-normal c op e)))
+  where
+    once : (c : Call) → normalOf (normalised c) ≡ normalOf c
+    once c = unfold normalOf in ap₂ instead (answer-same stateLength c) (operand-twice c)
+
+pub normal-answers : (c : Call) → NormalAnswers c
+unfolding normalOf
+normal-answers c = record {
+  when-done = λ n e. (normalOperand c, ap (λ (a : Answer). instead a (normalOperand c)) e);
+  when-no-op = λ r e. ap (λ (a : Answer). instead a (normalOperand c)) e;
+  when-refused = λ r e. ap (λ (a : Answer). instead a (normalOperand c)) e;
+}
