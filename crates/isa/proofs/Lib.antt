@@ -10,3 +10,4 @@ pub mod Clear
 pub mod NormalMac16
 pub mod NormalVecint
 pub mod NormalOperand
+pub mod Edges
