@@ -11,3 +11,4 @@ pub mod NormalMac16
 pub mod NormalVecint
 pub mod NormalOperand
 pub mod Edges
+pub mod Guards

@@ -11,3 +11,4 @@ pub mod Normal
 pub mod Swap
 pub mod Demands
 pub mod Edges
+pub mod Guards
