@@ -10,5 +10,6 @@ pub mod Clear
 pub mod NormalMac16
 pub mod NormalVecint
 pub mod NormalOperand
+pub mod Places
 pub mod Edges
 pub mod Guards

@@ -21,11 +21,11 @@ use Rattle.isa.proofs.Tests.{two, pick-true, pick-false, either}
 use Rattle.isa.proofs.Clear.{clearOfAll, separate, bits-same, twice}
 
 -- rows to a vector: 1, 2 or 4
-Counts : ℕ → Type 0
+abbrev pub Counts : ℕ → Type 0
 Counts r = (r ≡ 1) ⊎ ((r ≡ 2) ⊎ (r ≡ 4))
 
-rows-each : (op : ℕ) → Counts (Vecint.rowsEach op)
-unfolding Counts Vecint.rowsEach Vecint.widths Vecint.widthsBy
+pub rows-each : (op : ℕ) → Counts (Vecint.rowsEach op)
+unfolding Vecint.rowsEach Vecint.widths Vecint.widthsBy
 rows-each op =
     let R : Vecint.Widths → Type 0 = λ w. Counts (w .z / Vecint.narrower w) in
     let n : ℕ = bits op 42 45 in
@@ -122,7 +122,6 @@ module _ (gen op : ℕ) where
   by-each : (n : ℕ) → Vecint.stride gen op ≡ n
       → (Vecint.rowsEach op ≡ 1 → Same-row n 1) → (Vecint.rowsEach op ≡ 2 → Same-row n 2) → (Vecint.rowsEach op ≡ 4 → Same-row n 4)
       → Same-row (Vecint.stride gen op) (Vecint.rowsEach op)
-  unfolding Counts
   by-each n es one pair quartet = subst (λ (x : ℕ). Same-row x (Vecint.rowsEach op)) (sym es) (go (rows-each op))
     where
       go : Counts (Vecint.rowsEach op) → Same-row n (Vecint.rowsEach op)
@@ -272,7 +271,6 @@ module _ (gen op : ℕ) where
   entries-same = λ t. vecintIgnoredIf (eqb gen 1) (several-same t) (eqb (same 25 25 tt t) 1) (saturates-same t) (reduces-same t) (rowsEach-same t)
 
   entries-separate : T (separate entries)
-  unfolding Counts
   entries-separate = go (rows-each op)
     where
       go : Counts (Vecint.rowsEach op) → T (separate entries)

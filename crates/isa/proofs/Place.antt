@@ -11,14 +11,15 @@ use Rattle.isa.specs.State.{lanesOf, start, rowAt, laneAt, placeAt}
 abbrev pub home : ℕ → ℕ → ℕ
 home b p = start b (rowAt p) (laneAt b p)
 
+-- a factor of a number above 0
+pub factor-pos : (x y n : ℕ) → y * x ≡ suc n → 0 < x
+factor-pos zero y n e = omega (arith, e)
+factor-pos (suc x) y n e = omega arith
+
 -- m lanes of b bytes fill a row
 module _ (b m : ℕ) (fit : m * b ≡ 64) where
-  pub width-pos : 0 < b
-  width-pos = go b refl
-    where
-      go : (x : ℕ) → b ≡ x → 0 < b
-      go zero e = omega (arith, ap (λ (x : ℕ). m * x) e)
-      go (suc x) e = omega arith
+  width-pos : 0 < b
+  width-pos = factor-pos b m 63 fit
 
   pub lanes-fill : lanesOf b ≡ m
   lanes-fill = ap (λ (x : ℕ). x / b) (sym fit) ∙ mul-div-cancel m width-pos

@@ -10,5 +10,6 @@ pub mod Step
 pub mod Normal
 pub mod Swap
 pub mod Demands
+pub mod Places
 pub mod Edges
 pub mod Guards
