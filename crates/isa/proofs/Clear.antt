@@ -25,8 +25,12 @@ module _ (op first last : ℕ) where
   parts : cleared op first last ≡ above * 2 ^ first + op % 2 ^ first
   unfolding cleared bits
   parts =
-      omega (arith, split op first, split (op / 2 ^ first) wide,
-      ap (λ (x : ℕ). x * 2 ^ first) (sym (split (op / 2 ^ first) wide)) ∙ add-mul above (op / 2 ^ first % 2 ^ wide) (2 ^ first))
+      omega (
+        arith,
+        split op first,
+        split (op / 2 ^ first) wide,
+        ap (λ (x : ℕ). x * 2 ^ first) (sym (split (op / 2 ^ first) wide)) ∙ add-mul above (op / 2 ^ first % 2 ^ wide) (2 ^ first),
+      )
 
   low-same : cleared op first last % 2 ^ first ≡ op % 2 ^ first
   low-same = ap (λ (x : ℕ). x % 2 ^ first) parts ∙ low above first (mod-lt op (pow-pos first))

@@ -22,12 +22,14 @@ use Rattle.isa.specs.Answers.{answerOf}
 use Rattle.isa.specs.Step.{done, run, stepped}
 use Rattle.isa.specs.Normal.{normalOperand, normalOf}
 use Rattle.isa.specs.Swap.{Apart, enables}
-use Rattle.isa.specs.Guards.{CarryMatters, SaturationMatters, ChainAllowed, Pin, answerPins, normalPins}
+use Rattle.isa.specs.Edges.{Edge}
+use Rattle.isa.specs.Guards.{CarryMatters, SaturationMatters, ChainAllowed, Pin, answerPins, normalPins, RingTurns, rowPins}
 use Rattle.isa.proofs.Tests.{is-true, and-left, and-right, two, pick-true, pick-false}
 use Rattle.isa.proofs.Place.{home-in}
 use Rattle.isa.proofs.Applied.{length-applied, byte-applied, xy-applied, after-on, after-off}
 use Rattle.isa.proofs.Lawful.{whole, fills}
 use Rattle.isa.proofs.Step.{stepped-done}
+use Rattle.isa.proofs.Places.{vecint-only}
 
 -- ---- answers and normal operands
 
@@ -38,6 +40,15 @@ answers-pinned = refl
 pub normals-pinned : map (λ (p : Pin). p .gives) normalPins ≡ map (λ (p : Pin). p .says) normalPins
 unfolding bits cleared normalOperand normalOf answerOf Vecint.mode Vecint.widthsBy Vecint.widths Vecint.rowsEach
 normals-pinned = refl
+
+-- ---- places
+
+pub ring-turns : RingTurns
+ring-turns xy = refl
+
+pub rows-pinned : map (λ (p : Edge). p .gives) rowPins ≡ map (λ (p : Edge). p .says) rowPins
+unfolding bits sum vecintEnables Vecint.mode Vecint.widthsBy Vecint.widths Vecint.zWidth Vecint.rowsEach Vecint.stride Vecint.kOf Vecint.writes Vecint.masked Vecint.on
+rows-pinned = refl
 
 -- ---- pairs that do not commute
 
@@ -107,19 +118,25 @@ unfolding Mac16.on
 vector-row op e row lane t =
     eqb-true row (Mac16.zRow op) (and-left (eqb row (Mac16.zRow op)) (Mac16.xEnabled op lane) (sym (λ i. Mac16.on (e i) op row lane) ∙ t))
 
-vecint-row : (gen op : ℕ) → Vecint.stride gen op ≡ 64 → Vecint.rowsEach op ≡ 1 → (row lane : ℕ) → Vecint.on gen op row lane ≡ true → row % 64 / 1 ≡ Vecint.zRow op % 64 / 1
-unfolding Vecint.on Vecint.writes
+vecint-row : (gen op : ℕ) → Vecint.stride gen op ≡ 64 → Vecint.rowsEach op ≡ 1 → (row lane : ℕ) → Vecint.on gen op row lane ≡ true → row % 64 ≡ Vecint.zRow op % 64
 vecint-row gen op s r row lane t =
-    eqb-true (row % 64 / 1) (Vecint.zRow op % 64 / 1)
-    ((λ i. eqb (row % sym s i / sym r i) (Vecint.zRow op % sym s i / sym r i)) ∙ and-left (Vecint.writes gen op row) (Vecint.several gen op || Vecint.masked op (Vecint.kOf op row lane)) t)
+    let k : ℕ = Vecint.kOf op row lane in
+    let at : row ≡ row / 64 * 64 + (Vecint.zRow op % 64 / 1 * 1 + k % 1) =
+    vecint-only gen op row lane t .0 ∙ (λ i. row / s i * s i + (Vecint.zRow op % s i / r i * r i + k % r i))
+    in omega arith
 
 pub chain-allowed : ChainAllowed
 unfolding InRow bits answerOf Vecint.mode Vecint.widthsBy Vecint.widths Vecint.reductionBy Vecint.zWidth Vecint.rowsEach Vecint.stride Vecint.overrides
-chain-allowed =
-    (inr (record { first = tt; second = tt; one-width = refl }),
-    (inl (apart-rows 5120 sum-16 reduction 0 5 sum-row reduction-row (λ e. omega (arith, e))),
-    (inl (apart-rows 5120 sum-vecint reduction 0 5 vecint-sum-row reduction-row (λ e. omega (arith, e))),
-    (inl (record { apart = λ p h t u. u }), (inl (record { apart = λ p h t u. u }), (inl (record { apart = λ p h t u. u }), tt))))))
+chain-allowed = (
+  inr (record { first = tt; second = tt; one-width = refl }),
+  (
+    inl (apart-rows 5120 sum-16 reduction 0 5 sum-row reduction-row (λ e. omega (arith, e))),
+    (
+      inl (apart-rows 5120 sum-vecint reduction 0 5 vecint-sum-row reduction-row (λ e. omega (arith, e))),
+      (inl (record { apart = λ p h t u. u }), (inl (record { apart = λ p h t u. u }), (inl (record { apart = λ p h t u. u }), tt))),
+    ),
+  ),
+)
   where
     sum-16 : Call
     sum-16 = call 14 1 (2 ^ 63)

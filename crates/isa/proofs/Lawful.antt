@@ -124,9 +124,11 @@ vecint-adds gen op t xy row lane =
     let four : eqb m 4 ≡ false = is-false (eqb m 4) (λ e. true-false (sym adding ∙ ap Vecint.addingMode (eqb-true m 4 e))) in
     let d : AddsTo (Vecint.alu m (Vecint.shift op) (Vecint.xOf gen op xy v k) (Vecint.yOf gen op xy v k)) =
     alu-adds m (Vecint.shift op) (Vecint.xOf gen op xy v k) (Vecint.yOf gen op xy v k) adding
-    in
-    (wrap (span w) (d .0), λ z.
-    ap (λ (r : ℤ). wrap (span w) r % span w) (pick-false _ _ kept ∙ pick-false _ _ four ∙ d .1 (signed w z)) ∙ lane-adds w (d .0) z)
+    in (
+      wrap (span w) (d .0),
+      λ z.
+          ap (λ (r : ℤ). wrap (span w) r % span w) (pick-false _ _ kept ∙ pick-false _ _ four ∙ d .1 (signed w z)) ∙ lane-adds w (d .0) z,
+    )
 
 pub added : (c : Call) → effectOf c .adds ≡ true → OnlyAdds (effectOf c)
 added c =

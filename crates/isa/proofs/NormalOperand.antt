@@ -87,14 +87,33 @@ answer-same n c =
     λ f. for-vecint c (f (Vecint.mode (normalOperand c))) (f (Vecint.mode op))
     (λ e. ap (λ (x : ℕ). f (Vecint.mode x)) (vecint-operand c e) ∙ ap f (V′.mode-same g op))
     in
-    first-same (rowsAbove n (normalised c)) (rowsAbove n c) (Done (lanesOn (effectOf (normalised c)))) (Done (lanesOn (effectOf c)))
-    ((refl, refl), ((refl, refl), ((refl, refl),
-    ((for-vecint c _ _ (λ e. ap (λ (x : ℕ). not (eqb (bits x 54 56) 0)) (vecint-operand c e) ∙ ap (λ (x : ℕ). not (eqb x 0)) (V′.same g op 54 56 tt)), refl),
-    ((by-mode (λ m. leb 7 m && leb m 9 || leb 13 m), refl),
-    ((by-mode (λ m. leb 10 m && leb m 12 && eqb g 1), refl),
-    ((for-vecint c _ _ (λ e.
-    ap (λ (x : ℕ). eqb (bits x 53 53) 1 || not (Vecint.reduces x) && not (eqb (bits x 27 30) 0)) (vecint-operand c e)
-    ∙ (λ t. eqb (V′.same g op 53 53 tt t) 1 || shuffles-same g op t)), refl), tt)))))))
+    first-same (rowsAbove n (normalised c)) (rowsAbove n c) (Done (lanesOn (effectOf (normalised c)))) (Done (lanesOn (effectOf c))) (
+      (refl, refl),
+      (
+        (refl, refl),
+        (
+          (refl, refl),
+          (
+            (for-vecint c _ _ (λ e. ap (λ (x : ℕ). not (eqb (bits x 54 56) 0)) (vecint-operand c e) ∙ ap (λ (x : ℕ). not (eqb x 0)) (V′.same g op 54 56 tt)), refl),
+            (
+              (by-mode (λ m. leb 7 m && leb m 9 || leb 13 m), refl),
+              (
+                (by-mode (λ m. leb 10 m && leb m 12 && eqb g 1), refl),
+                (
+                  (
+                    for-vecint c _ _ (λ e.
+                        ap (λ (x : ℕ). eqb (bits x 53 53) 1 || not (Vecint.reduces x) && not (eqb (bits x 27 30) 0)) (vecint-operand c e)
+                        ∙ (λ t. eqb (V′.same g op 53 53 tt t) 1 || shuffles-same g op t)),
+                    refl,
+                  ),
+                  tt,
+                ),
+              ),
+            ),
+          ),
+        ),
+      ),
+    )
     (ap (λ (e : Effect). Done (lanesOn e)) (effect-same c))
 
 step-same : (c : Call) (s : List ℕ) → stepped (normalised c) s ≡ stepped c s

@@ -140,6 +140,7 @@ vecint-placed gen op v k h =
 pub vecint-only : VecintOnly
 unfolding Vecint.kOf Vecint.on Vecint.writes
 vecint-only gen op row lane t =
-    let R : Rows (Vecint.stride gen op) (Vecint.rowsEach op) = rows-at gen op in
-    (R .row (Vecint.zRow op) row lane (eqb-true _ _ (and-left (Vecint.writes gen op row) (Vecint.several gen op || Vecint.masked op (Vecint.kOf op row lane)) t)),
-    R .lane row lane)
+    let R : Rows (Vecint.stride gen op) (Vecint.rowsEach op) = rows-at gen op in (
+      R .row (Vecint.zRow op) row lane (eqb-true _ _ (and-left (Vecint.writes gen op row) (Vecint.several gen op || Vecint.masked op (Vecint.kOf op row lane)) t)),
+      R .lane row lane,
+    )
