@@ -23,21 +23,21 @@ module _ {A : Type 0} (f : ℕ → A) where
   getD-table d i (suc n) (suc k) h = getD-table d (suc i) n k (le-of-suc-le-suc h) ∙ ap f (omega arith)
 
 -- one more byte
-span-suc : (b : ℕ) → span (suc b) ≡ span b * 256
+pub span-suc : (b : ℕ) → span (suc b) ≡ span b * 256
 span-suc b = ap (λ (x : ℕ). 2 ^ x) (mul-suc 8 b) ∙ pow-add 2 (8 * b) 8
 
-byteOf-zero : (n : ℕ) → byteOf n 0 ≡ n % 256
+pub byteOf-zero : (n : ℕ) → byteOf n 0 ≡ n % 256
 unfolding byteOf
 byteOf-zero n = ap (λ (x : ℕ). x % 256) (div-one n)
 
-byteOf-suc : (n k : ℕ) → byteOf n (suc k) ≡ byteOf (n / 256) k
+pub byteOf-suc : (n k : ℕ) → byteOf n (suc k) ≡ byteOf (n / 256) k
 unfolding byteOf
 byteOf-suc n k =
     ap (λ (x : ℕ). x % 256)
     (ap (λ (x : ℕ). n / x) (span-suc k ∙ mul-comm (span k) 256) ∙ sym (div-div-eq-div-mul n 256 (span k)))
 
 -- the bytes of what is left of a number modulo the span are its low bytes
-byteOf-mod : (n b k : ℕ) → k < b → byteOf (n % span b) k ≡ byteOf n k
+pub byteOf-mod : (n b k : ℕ) → k < b → byteOf (n % span b) k ≡ byteOf n k
 unfolding byteOf
 byteOf-mod n b k h =
     let j : ℕ = 8 * (b - suc k) in

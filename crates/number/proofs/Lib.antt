@@ -1,3 +1,4 @@
 pub mod Bytes
 pub mod Modular
 pub mod Shift
+pub mod Slice
