@@ -2,3 +2,4 @@ pub mod Bytes
 pub mod Modular
 pub mod Shift
 pub mod Slice
+pub mod Range

@@ -85,3 +85,104 @@ pub fn put32(s: &mut [u8], at: usize, n: u32)
     put16(s, at, (n % 65536) as u16);
     put16(s, at + 2, (n / 65536) as u16);
 }
+
+// ---- a lane's number as an integer, signed or not
+
+pub fn signed8(n: u8) -> i16
+    ensures { λ r. ⌜ r ≡ signed 1 n ⌝ }
+{
+    if n < 128 { n as i16 } else { n as i16 - 256 }
+}
+
+pub fn signed16(n: u16) -> i16
+    ensures { λ r. ⌜ r ≡ signed 2 n ⌝ }
+{
+    if n < 32_768 { n as i16 } else { (n as i32 - 65_536) as i16 }
+}
+
+pub fn signed32(n: u32) -> i32
+    ensures { λ r. ⌜ r ≡ signed 4 n ⌝ }
+{
+    if n < 2_147_483_648 { n as i32 } else { (n as i64 - 4_294_967_296) as i32 }
+}
+
+// ---- what is done to integers, in i64
+
+// The product of two 16-bit numbers is made in an i32, which the compiler does eight lanes at a time.
+pub fn product16(x: i16, y: i16) -> i64
+    ensures { λ r. ⌜ (r ≡ x *ℤ y) × (mag r < 2 ^ 31) ⌝ }
+{
+    (x as i32 * y as i32) as i64
+}
+
+pub fn product(x: i32, y: i32) -> i64
+    ensures { λ r. ⌜ r ≡ x *ℤ y ⌝ }
+{
+    x as i64 * y as i64
+}
+
+pub fn sum(x: i32, y: i32) -> i64
+    ensures { λ r. ⌜ r ≡ x +ℤ y ⌝ }
+{
+    x as i64 + y as i64
+}
+
+// Shifted right by s modulo 32, rounded towards minus infinity.
+pub fn shifted(v: i64, s: u32) -> i64
+    ensures { λ r. ⌜ (r ≡ v ≫ (s % 32)) × (mag r ≤ mag v) ⌝ }
+{
+    v >> (s % 32)
+}
+
+// What a rounding shift by s modulo 32 adds.
+pub fn half_unit(s: u32) -> i64
+    ensures { λ r. ⌜ r ≡ halfUnit (s % 32) ⌝ }
+{
+    let t = s % 32;
+    if t == 0 {
+        return 0;
+    }
+    1i64 << (t - 1)
+}
+
+pub fn clamped(low: i64, high: i64, v: i64) -> i64
+    ensures { λ r. ⌜ r ≡ clamp low high v ⌝ }
+{
+    if v < low {
+        return low;
+    }
+    if high < v {
+        return high;
+    }
+    v
+}
+
+// ---- integers kept in a lane
+
+// Modulo 2 to the 64: all 64 bits.
+fn bits64(v: i64) -> u64
+    ensures { λ r. ⌜ r ≡ wrap (span 8) v ⌝ }
+{
+    if v < 0 {
+        return u64::MAX - ((-1 - v) as u64);
+    }
+    v as u64
+}
+
+pub fn wrapped8(v: i64) -> u8
+    ensures { λ r. ⌜ r ≡ wrap (span 1) v ⌝ }
+{
+    (bits64(v) % 256) as u8
+}
+
+pub fn wrapped16(v: i64) -> u16
+    ensures { λ r. ⌜ r ≡ wrap (span 2) v ⌝ }
+{
+    (bits64(v) % 65_536) as u16
+}
+
+pub fn wrapped32(v: i64) -> u32
+    ensures { λ r. ⌜ r ≡ wrap (span 4) v ⌝ }
+{
+    (bits64(v) % 4_294_967_296) as u32
+}

@@ -1,0 +1,32 @@
+use Rattle.number.proofs.Range.{widened, mag-add}
+use lib.Signed.{mag}
+use lib.IntN.{_+ℤ_, _*ℤ_}
+use Prim.Native.Nat.{_<_, _^_}
+use mir.Val.{SFits}
+use mir.Syntax.{w16, w32, w64}
+use mir.Facts.{toZ-ofZ, sfits-widen}
+use native.Mathlib.Omega.{arith}
+use mathlib.Core.Path.{_≡_, refl, sym, ap, _∙_}
+use Rattle.number.proofs.sum.Statement.{statement}
+use Rattle.number.proofs.sum.Tie as tie
+use Rattle.number.proofs.sum.Reads as reads
+use Rattle.number.proofs.sum.Lts as lts
+
+-- src/lib.rt:127:5
+cast-result : tie.Need-cast-result
+cast-result c = rw (toZ-ofZ (c .fits .x)) (sfits-widen tt (c .fits .x))
+
+-- src/lib.rt:127:16
+cast-result-2 : tie.Need-cast-result-2
+cast-result-2 c = rw (toZ-ofZ (c .fits .y)) (sfits-widen tt (c .fits .y))
+
+-- src/lib.rt:127:5
+add-result : tie.Need-add-result
+add-result c = rw (widened w32 w64 (c .args .x) tt (c .fits .x), widened w32 w64 (c .args .y) tt (c .fits .y)) (record { sfits = omega (arith, mag-add (c .args .x) (c .args .y) (c .fits .x .sfits) (c .fits .y .sfits)) })
+
+-- src/lib.rt:124:1
+returns : tie.Need-returns
+returns c = rw (widened w32 w64 (c .args .x) tt (c .fits .x), widened w32 w64 (c .args .y) tt (c .fits .y)) (toZ-ofZ (record { sfits = omega (arith, mag-add (c .args .x) (c .args .y) (c .fits .x .sfits) (c .fits .y .sfits)) }))
+
+pub sum-spec : {M : Type 1} → statement M
+sum-spec = tie.close (tie.spec cast-result cast-result-2 add-result returns)
