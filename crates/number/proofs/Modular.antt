@@ -3,12 +3,12 @@
 use mathlib.Core.Path.{_≡_, refl, sym, ap, _∙_}
 use mathlib.Core.Bool.{Bool, true, false, cond}
 use Prim.Native.Nat.{ℕ, zero, suc, _+_, _-_, _*_, _/_, _%_, _≤_, _<_}
-use native.Mathlib.Nat.{mod-lt, div-add-mod', mod-add-mod, add-mod, add-mod-right, mod-mod, mod-eq-of-lt, add-mul-mod-self-right, mul-add-mod-self-right, add-comm}
+use native.Mathlib.Nat.{mod-lt, div-add-mod', mod-add-mod, add-mod, add-mod-right, mod-mod, mod-eq-of-lt, add-mul-mod-self-right, mul-add-mod-self-right, add-comm, zero-mod}
 use native.Mathlib.Omega.{arith}
 use borrow.Author.Tests.{ltb-true, ltb-false}
 use lib.Dec.{ltb}
 use lib.Pow.{pow-pos}
-use lib.IntN.{ℤ, pos, negsuc, subℕ, _+ℤ_}
+use lib.IntN.{ℤ, pos, negsuc, negℤ, subℕ, _+ℤ_, +ℤ-invl}
 use Rattle.number.specs.Bytes.{span}
 use Rattle.number.specs.Integers.{signed, wrap}
 use Rattle.number.specs.Modular.{AddsModulo, SumsSwap}
@@ -70,6 +70,12 @@ module _ (m : ℕ) (p : 0 < m) where
       ∙ cancel (wrap m (negsuc n)) (wrap m (negsuc a) + wrap m (negsuc b)) (suc n)
       (ap (λ (t : ℕ). t % m) l ∙ wrap-neg n 0
       ∙ sym (ap (λ (t : ℕ). t % m) r ∙ wrap-neg a (wrap m (negsuc b) + suc b + 0) ∙ wrap-neg b 0))
+
+  -- what is left of 0 when what is kept of v is taken from it, modulo m
+  pub wrap-negative : (v : ℤ) (r : ℕ) → r < m → (r + wrap m v) % m ≡ 0 → r ≡ wrap m (negℤ v)
+  wrap-negative v r h e =
+      let zero-sum : (wrap m (negℤ v) + wrap m v) % m ≡ 0 = sym (wrap-add (negℤ v) v) ∙ ap (wrap m) (+ℤ-invl v) ∙ zero-mod m in
+      sym (mod-eq-of-lt h) ∙ cancel r (wrap m (negℤ v)) (wrap m v) (e ∙ sym zero-sum) ∙ wrap-mod (negℤ v)
 
 -- a signed reading, kept to its width, is the number kept to it
 wrap-signed : (b z : ℕ) → wrap (span b) (signed b z) ≡ z % span b

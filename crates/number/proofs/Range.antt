@@ -115,6 +115,15 @@ pub not-below : (v : ℤ) → ltZ v (pos 0) ≡ false → T (nonNeg v)
 not-below (pos n) e = tt
 not-below (negsuc n) e = subst T e tt
 
+-- -1 less a number, and the upper half of 64 bits read so
+minus-one : (k : ℕ) → negsuc 0 -ℤ pos k ≡ negsuc k
+minus-one zero = refl
+minus-one (suc k) = ap negsuc (omega arith)
+
+pub read-top : (b n : ℕ) → n < span b → span b ≤ 2 * n → negsuc 0 -ℤ pos (span b - 1 - n) ≡ signed b n
+read-top b n h l =
+    minus-one (span b - 1 - n) ∙ ap negsuc (omega arith) ∙ sym (signed-sub b n l ∙ sub-lt n (span b) h)
+
 -- all the bits of v, where 2 to their number is m
 pub wrap-above : (m : ℕ) (v : ℤ) → ltZ v (pos 0) ≡ false → mag v < m → natAbs v ≡ wrap m v
 wrap-above m (pos n) e h = sym (mod-eq-of-lt h)

@@ -97,13 +97,39 @@ pub fn signed8(n: u8) -> i16
 pub fn signed16(n: u16) -> i16
     ensures { λ r. ⌜ r ≡ signed 2 n ⌝ }
 {
-    if n < 32_768 { n as i16 } else { (n as i32 - 65_536) as i16 }
+    if n < 32_768 {
+        n as i16
+    } else {
+        (n as i32 - 65_536) as i16
+    }
 }
 
 pub fn signed32(n: u32) -> i32
     ensures { λ r. ⌜ r ≡ signed 4 n ⌝ }
 {
-    if n < 2_147_483_648 { n as i32 } else { (n as i64 - 4_294_967_296) as i32 }
+    if n < 2_147_483_648 {
+        n as i32
+    } else {
+        (n as i64 - 4_294_967_296) as i32
+    }
+}
+
+pub fn read8(sign: bool, n: u8) -> i32
+    ensures { λ r. ⌜ r ≡ read sign 1 n ⌝ }
+{
+    if sign { signed8(n) as i32 } else { n as i32 }
+}
+
+pub fn read16(sign: bool, n: u16) -> i32
+    ensures { λ r. ⌜ r ≡ read sign 2 n ⌝ }
+{
+    if sign { signed16(n) as i32 } else { n as i32 }
+}
+
+pub fn read32(sign: bool, n: u32) -> i64
+    ensures { λ r. ⌜ r ≡ read sign 4 n ⌝ }
+{
+    if sign { signed32(n) as i64 } else { n as i64 }
 }
 
 // ---- what is done to integers, in i64
@@ -185,4 +211,27 @@ pub fn wrapped32(v: i64) -> u32
     ensures { λ r. ⌜ r ≡ wrap (span 4) v ⌝ }
 {
     (bits64(v) % 4_294_967_296) as u32
+}
+
+// 64 bits read in two's complement.
+fn signed64(n: u64) -> i64
+    ensures { λ r. ⌜ r ≡ signed 8 n ⌝ }
+{
+    if n < 0x8000_0000_0000_0000 {
+        return n as i64;
+    }
+    -1 - ((u64::MAX - n) as i64)
+}
+
+// What an i64 keeps of a sum and of a negative; all of it, but past its ends.
+pub fn added(a: i64, b: i64) -> i64
+    ensures { λ r. ⌜ r ≡ kept 8 (a +ℤ b) ⌝ }
+{
+    signed64(std::num::wrapping_add_u64(bits64(a), bits64(b)))
+}
+
+pub fn negated(v: i64) -> i64
+    ensures { λ r. ⌜ r ≡ kept 8 (negℤ v) ⌝ }
+{
+    signed64(std::num::wrapping_sub_u64(0, bits64(v)))
 }

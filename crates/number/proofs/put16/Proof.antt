@@ -43,7 +43,7 @@ same-length c = search needs
 
 -- src/lib.rt:65:1
 returns-2 : tie.Need-returns-2
-returns-2 c = 
+returns-2 c =
     c .before .before .put82 .ensures
     ∙ ap (λ (t : List ℕ). set t (c .before .before .before .before .before .before .before .before .before .before .args .at + 1) (c .before .before .before .before .before .before .before .before .before .before .args .n / 256)) (c .before .before .before .before .before .before .put8 .ensures)
     ∙ stores-2 (c .before .before .before .before .before .before .before .before .before .before .args .s .now) (c .before .before .before .before .before .before .before .before .before .before .args .at) (c .before .before .before .before .before .before .before .before .before .before .args .n) (omega arith)

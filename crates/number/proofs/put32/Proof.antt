@@ -35,7 +35,7 @@ same-length c = search needs
 
 -- src/lib.rt:83:9
 returns-2 : tie.Need-returns-2
-returns-2 c = 
+returns-2 c =
     c .before .before .put16 .ensures
     ∙ sym (sets-past (sets (c .before .before .before .before .before .before .before .args .s .now) (c .before .before .before .before .before .before .before .args .at) (bytesOf 2 (c .before .before .before .before .before .before .before .args .n % 65536))) (c .before .before .before .before .before .before .before .args .at + 2) (bytesOf 2 (c .before .before .before .before .before .before .before .args .n / 65536)) (simp length-sets (omega arith)))
     ∙ stores-4 (c .before .before .before .before .before .before .before .args .s .now) (c .before .before .before .before .before .before .before .args .at) (c .before .before .before .before .before .before .before .args .n)
@@ -66,7 +66,7 @@ same-length-2 c = search needs
 
 -- src/lib.rt:75:1
 returns-3 : tie.Need-returns-3
-returns-3 c = 
+returns-3 c =
     c .before .before .put163 .ensures
     ∙ ap (λ (t : List ℕ). sets t (c .before .before .before .before .before .before .before .before .before .before .before .args .at + 2) (bytesOf 2 (c .before .before .before .before .before .before .before .before .before .before .before .args .n / 65536))) (c .before .before .before .before .before .before .put162 .ensures)
     ∙ stores-4 (c .before .before .before .before .before .before .before .before .before .before .before .args .s .now) (c .before .before .before .before .before .before .before .before .before .before .before .args .at) (c .before .before .before .before .before .before .before .before .before .before .before .args .n)

@@ -21,7 +21,7 @@ shr-result c = search needs
 
 -- src/lib.rt:131:1
 returns : tie.Need-returns
-returns c = 
+returns c =
     let h : SFits w64 (shrZ (c .args .v) (2 ^ (c .args .s % 32))) = record { sfits = omega (arith, mag-shr (c .args .v) (2 ^ (c .args .s % 32))) } in
     rw (toZ-ofZ (c .fits .v), toZ-ofZ h) (refl, mag-shr (c .args .v) (2 ^ (c .args .s % 32)))
 
