@@ -14,7 +14,7 @@ use Rattle.number.specs.Bytes.{span, byteAt, number, byteOf}
 use Rattle.number.proofs.Bytes.{length-table, getD-table, number-same, number-bytes}
 use Rattle.isa.specs.State.{start, inZ, rowAt, laneAt, placeAt}
 use Rattle.isa.specs.Effect.{Effect, touches, newLane, after, applied}
-use Rattle.isa.proofs.Tests.{and-left, two, pick-true, pick-false}
+use Rattle.number.proofs.Tests.{and-left, two, pick-true, pick-false}
 use Rattle.isa.proofs.Place.{home, home-row, home-lane, home-in, start-row, start-lane, start-place, start-in}
 
 pub length-applied : (e : Effect) (s : List ℕ) → length (applied e s) ≡ length s

@@ -10,7 +10,7 @@ use lib.Dec.{T, leb, ltb, leb→le, ltb→lt}
 use lib.Pow.{pow-pos, split, high, low, field, mod-mod-pow, shr-shr, shl-shr}
 use Rattle.isa.specs.Operand.{bits, cleared}
 use Rattle.isa.specs.Normal.{Ignored, clearedAll}
-use Rattle.isa.proofs.Tests.{pick-true, pick-false}
+use Rattle.number.proofs.Tests.{pick-true, pick-false}
 
 -- ---- one field cleared
 

@@ -12,7 +12,7 @@ use Rattle.number.specs.Bytes.{span, byteAt, number, byteOf}
 use Rattle.number.proofs.Bytes.{byteOf-same}
 use Rattle.isa.specs.State.{rowAt, laneAt, placeAt}
 use Rattle.isa.specs.Effect.{Effect, touches, newLane, after, applied, Fills, OnlyAdds}
-use Rattle.isa.proofs.Tests.{is-false, four}
+use Rattle.number.proofs.Tests.{is-false, four}
 use Rattle.isa.proofs.Place.{home, place-lt, lane-lt, home-in}
 use Rattle.isa.proofs.Applied.{length-applied, byte-applied, after-on, after-off, in-z, touches-in, xy-applied, others, written, touches-home, untouched}
 

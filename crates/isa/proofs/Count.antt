@@ -14,7 +14,7 @@ use Rattle.isa.specs.Effect.{Effect, Fills, touches, sum, count, lanesOn
 use Rattle.isa.specs.Call.{Call, effectOf}
 use Rattle.isa.specs.Answers.{Row, rowsAbove, firstOf, answerOf, isDone}
 use Rattle.isa.specs.Demands.{Counted, DoneCounted}
-use Rattle.isa.proofs.Tests.{true-false, and-left, and-right, two, pick-true, pick-false}
+use Rattle.number.proofs.Tests.{true-false, and-left, and-right, two, pick-true, pick-false}
 use Rattle.isa.proofs.Place.{lanes-fill, start-row, start-lane, start-in}
 use Rattle.isa.proofs.Applied.{not-xy, touches-in}
 use Rattle.isa.proofs.Lawful.{fills}

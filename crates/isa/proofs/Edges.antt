@@ -15,7 +15,7 @@ use Rattle.isa.specs.Call.{Call, effectOf}
 use Rattle.isa.specs.Answers.{answerOf}
 use Rattle.isa.specs.Step.{done, stepped}
 use Rattle.isa.specs.Edges.{Edge, edges, byteAfter}
-use Rattle.isa.proofs.Tests.{two, pick-true, pick-false}
+use Rattle.number.proofs.Tests.{two, pick-true, pick-false}
 use Rattle.isa.proofs.Applied.{byte-applied}
 use Rattle.isa.proofs.Step.{stepped-done, stepped-not}
 

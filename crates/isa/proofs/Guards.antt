@@ -24,7 +24,7 @@ use Rattle.isa.specs.Normal.{normalOperand, normalOf}
 use Rattle.isa.specs.Swap.{Apart, enables}
 use Rattle.isa.specs.Edges.{Edge}
 use Rattle.isa.specs.Guards.{CarryMatters, SaturationMatters, ChainAllowed, Pin, answerPins, normalPins, RingTurns, rowPins}
-use Rattle.isa.proofs.Tests.{is-true, and-left, and-right, two, pick-true, pick-false}
+use Rattle.number.proofs.Tests.{is-true, and-left, and-right, two, pick-true, pick-false}
 use Rattle.isa.proofs.Place.{home-in}
 use Rattle.isa.proofs.Applied.{length-applied, byte-applied, xy-applied, after-on, after-off}
 use Rattle.isa.proofs.Lawful.{whole, fills}

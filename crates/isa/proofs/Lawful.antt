@@ -21,7 +21,7 @@ use Rattle.isa.specs.Vecint as Vecint
 use Rattle.isa.specs.Call.{Call, isMac16, effectOf}
 use Rattle.isa.specs.Answers.{answerOf, isDone}
 use Rattle.isa.specs.Step.{done}
-use Rattle.isa.proofs.Tests.{true-false, is-false, and-left, and-right, pick-false, either}
+use Rattle.number.proofs.Tests.{true-false, is-false, and-left, and-right, pick-false, either}
 
 -- ---- only a state of 5,120 bytes has done calls
 

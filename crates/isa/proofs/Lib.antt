@@ -1,4 +1,3 @@
-pub mod Tests
 pub mod Place
 pub mod Applied
 pub mod Commute

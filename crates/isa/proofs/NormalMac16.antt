@@ -15,7 +15,7 @@ use Rattle.isa.specs.Enable.{mac16Enables}
 use Rattle.isa.specs.Mac16 as Mac16
 use Rattle.isa.specs.Mac16.{Form, vector, matrix16, matrix32, formOf}
 use Rattle.isa.specs.Normal.{Ignored, ignoredByAll, ignoredByForm, mac16Ignored, clearedAll}
-use Rattle.isa.proofs.Tests.{two, pick-true, pick-false}
+use Rattle.number.proofs.Tests.{two, pick-true, pick-false}
 use Rattle.isa.proofs.Clear.{clearOfAll, separate, bits-same, twice}
 
 -- what a form ignores

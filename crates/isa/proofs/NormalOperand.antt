@@ -21,7 +21,7 @@ use Rattle.isa.specs.Answers.{Row, rowsAbove, firstOf, answerOf, isDone}
 use Rattle.isa.specs.Step.{stepped}
 use Rattle.isa.specs.Normal.{mac16Ignored, vecintIgnored, clearedAll, normalOperand, instead, normalOf}
 use Rattle.isa.specs.Demands.{NormalSame, NormalTwice, NormalAnswers}
-use Rattle.isa.proofs.Tests.{two, pick-true, pick-false}
+use Rattle.number.proofs.Tests.{two, pick-true, pick-false}
 use Rattle.isa.proofs.NormalMac16.{mac16-same, mac16-twice}
 use Rattle.isa.proofs.NormalVecint as V′
 

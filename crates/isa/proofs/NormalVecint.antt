@@ -17,7 +17,7 @@ use Rattle.isa.specs.Effect.{Effect}
 use Rattle.isa.specs.Enable.{vecintEnables}
 use Rattle.isa.specs.Vecint
 use Rattle.isa.specs.Normal.{Ignored, vecintIgnoredIf, vecintIgnored, clearedAll}
-use Rattle.isa.proofs.Tests.{two, pick-true, pick-false, either}
+use Rattle.number.proofs.Tests.{two, pick-true, pick-false, either}
 use Rattle.isa.proofs.Clear.{clearOfAll, separate, bits-same, twice}
 
 -- rows to a vector: 1, 2 or 4

@@ -15,7 +15,7 @@ use Rattle.isa.specs.Mac16.{vector, matrix16, matrix32}
 use Rattle.isa.specs.Vecint as Vecint
 use Rattle.isa.specs.Places.{Mac16Placed, VecintPlaced, VecintOnly, vecintRow, vecintLane}
 use Rattle.isa.proofs.Place.{factor-pos}
-use Rattle.isa.proofs.Tests.{either, and-left}
+use Rattle.number.proofs.Tests.{either, and-left}
 use Rattle.isa.proofs.NormalVecint.{Counts, rows-each}
 
 -- ---- mac16

@@ -13,7 +13,7 @@ use Rattle.isa.specs.Answers.{answerOf}
 use Rattle.isa.specs.Step.{done, stepped, run, answers}
 use Rattle.isa.specs.Swap.{swapAt, swaps, MaySwap, MaySwapAt, Allowed}
 use Rattle.isa.specs.Demands.{Rearranged}
-use Rattle.isa.proofs.Tests.{is-true, true-is, and-right, four}
+use Rattle.number.proofs.Tests.{is-true, true-is, and-right, four}
 use Rattle.isa.proofs.Applied.{length-applied}
 use Rattle.isa.proofs.Commute.{commute-apart, commute-adds}
 use Rattle.isa.proofs.Lawful.{whole, fills, added}

@@ -10,7 +10,7 @@ use Rattle.isa.specs.Effect.{applied}
 use Rattle.isa.specs.Call.{Call, effectOf}
 use Rattle.isa.specs.Step.{done, stepped}
 use Rattle.isa.specs.Demands.{NotDone, Exact, DoneExact}
-use Rattle.isa.proofs.Tests.{two, pick-true, pick-false}
+use Rattle.number.proofs.Tests.{two, pick-true, pick-false}
 use Rattle.isa.proofs.Place.{lanes-fill}
 use Rattle.isa.proofs.Applied.{length-applied, xy-applied, others, written}
 use Rattle.isa.proofs.Lawful.{whole, fills}

@@ -1,8 +1,8 @@
 -- Ranges of integers, as bounds on mag: mag z < h says -h ≤ z < h. Signed readings and sums that are kept stay in theirs.
 -- Assumes nothing.
 use mathlib.Core.Path.{_≡_, refl, sym, ap, _∙_, subst}
-use mathlib.Core.Bool.{Bool, true, false, cond}
-use mathlib.Core.Logic.{_⊎_, inl, inr, ⊎-elim}
+use mathlib.Core.Bool.{true, false}
+use mathlib.Core.Logic.{⊎-elim}
 use Prim.Native.Nat.{ℕ, zero, suc, _+_, _-_, _*_, _/_, _%_, _^_, _≤_, _<_}
 use native.Mathlib.Nat.{mul-le-mul, not-suc-le-zero, lt-irrefl, mod-lt, mod-eq-of-lt, add-mul, suc-mul, one-mul}
 use native.Mathlib.Omega.{arith}
@@ -10,27 +10,13 @@ use lib.Dec.{T, leb, ltb}
 use lib.IntN.{ℤ, pos, negsuc, negℤ, subℕ, natAbs, _+ℤ_, _-ℤ_, _*ℤ_}
 use lib.Pow.{pow-pos, pow-add, pow-lt, mod-mod-pow, mod-pow-add, low}
 use lib.Signed.{mag, nonNeg, ltZ}
-use borrow.Author.Tests.{ltb-true, ltb-false, lt-ltb, le-ltb}
+use borrow.Author.Tests.{ltb-true, lt-ltb, le-ltb}
 use mir.Syntax.{Width, w64}
 use mir.Val.{SFits, toZ, ofZ, hbits}
 use mir.Facts.{toZ-ofZ, toZ-pos, sfits-widen}
 use Rattle.number.specs.Bytes.{span}
+use Rattle.number.proofs.Tests.{lt-or-le, pick-true, pick-false}
 use Rattle.number.specs.Integers.{signed, wrap, kept, halfUnit, clamp}
-
--- ---- a test of two numbers, and a choice by a test
-
-by-test : (a b : ℕ) (t : Bool) → ltb a b ≡ t → (a < b) ⊎ (b ≤ a)
-by-test a b true e = inl (ltb-true a b e)
-by-test a b false e = inr (ltb-false a b e)
-
-pub lt-or-le : (a b : ℕ) → (a < b) ⊎ (b ≤ a)
-lt-or-le a b = by-test a b (ltb a b) refl
-
-pub pick-true {ℓ} : {A : Type ℓ} {b : Bool} (x y : A) → b ≡ true → cond b x y ≡ x
-pick-true x y e = ap (λ (t : Bool). cond t x y) e
-
-pub pick-false {ℓ} : {A : Type ℓ} {b : Bool} (x y : A) → b ≡ false → cond b x y ≡ y
-pick-false x y e = ap (λ (t : Bool). cond t x y) e
 
 -- ---- differences, sums, products
 

@@ -4,14 +4,11 @@ use mathlib.Core.Path.{_≡_, refl, sym, ap, _∙_}
 use Prim.Native.Nat.{ℕ, zero, suc, _+_, _-_, _*_, _/_, _%_, _^_, _<_}
 use native.Mathlib.Nat.{mod-lt, div-add-mod', suc-mul}
 use native.Mathlib.Omega.{arith}
-use borrow.Author.Tests.{lt-ltb}
-use lib.IntN.{ℤ, pos, negsuc, negℤ, subℕ, _+ℤ_, _*ℤ_}
+use lib.IntN.{ℤ, pos, negsuc, negℤ, _+ℤ_, _*ℤ_}
 use lib.Pow.{pow-pos}
 use Rattle.number.specs.Integers.{_≫_}
 use Rattle.number.specs.Modular.{Floor}
-
-sub-lt : (a b : ℕ) → a < b → subℕ a b ≡ negsuc (b - suc a)
-sub-lt a b h = rw (lt-ltb a b h)
+use Rattle.number.proofs.Range.{sub-lt}
 
 pub floor : (v : ℤ) (s : ℕ) → Floor v s
 floor (pos n) s = record { rest = n % 2 ^ s; small = mod-lt n (pow-pos s); whole = ap pos (div-add-mod' n (2 ^ s)) }

@@ -1,4 +1,5 @@
-use Rattle.number.proofs.Range.{widened, pick-true, pick-false}
+use Rattle.number.proofs.Range.{widened}
+use Rattle.number.proofs.Tests.{pick-true, pick-false}
 use mir.Facts.{toZ-ofZ, toZ-pos, sfits-widen}
 use mir.Syntax.{w16, w32, w64}
 use borrow.Author.Needs.{sfits-of}
