@@ -1,0 +1,4 @@
+pub mod Sets
+pub mod Holds
+pub mod RowLoop
+pub mod Loads

@@ -1,0 +1,66 @@
+// The lent state: loads from X and Y, and rows of Z. Every function takes every argument.
+ghost use mathlib.Core.Path.{_≡_};
+ghost use mathlib.Core.Bool.{cond};
+ghost use Prim.Native.Nat.{_+_, _%_, _≤_};
+ghost use lib.Dec.{eqb};
+ghost use lib.ListN.{length};
+ghost use lib.Seq.{sets};
+ghost use Rattle.number.specs.Bytes.{span, byteAt, number, bytesOf, table};
+ghost use Rattle.isa.specs.State.{stateLength, xBase, yBase, loaded};
+ghost use Rattle.isa.specs.Effect.{applied};
+ghost use Rattle.state.specs.Rows.{laneSum, rowSum};
+
+// ---- loads
+
+fn base_of(y: bool) -> usize
+    ensures { λ r. ⌜ (r ≡ cond y yBase xBase) × (r ≤ 512) ⌝ }
+{
+    if y { 512 } else { 0 }
+}
+
+// The 64 bytes of Y, or of X, from an offset on, round the ring.
+pub fn load(state: &[u8], y: bool, offset: u64) -> [u8; 64]
+    ensures { λ r. ⌜ r ≡ table (loaded (now (state .entry)) (cond y yBase xBase) offset) 0 64 ⌝ }
+{
+    let base = base_of(y);
+    let from = (offset % 512) as usize;
+    let mut out = [0u8; 64];
+    for i in 0..64 {
+        out[i] = number::get8(state, base + (from + i) % 512);
+    }
+    out
+}
+
+// ---- rows of 16-bit lanes
+
+fn summed16(z: u16, v: u16, on: bool, keep: bool) -> u16
+    ensures { λ r. ⌜ r ≡ laneSum 2 z v on keep ⌝ }
+{
+    if keep {
+        return std::num::wrapping_add_u16(z, v);
+    }
+    if on { v } else { z }
+}
+
+fn sum_lane16(state: &mut [u8], at: usize, v: u16, on: bool, keep: bool)
+    ensures { λ _. ⌜ now (state .exit) ≡ sets (now (state .entry)) at (bytesOf 2 (laneSum 2 (number 2 (byteAt (now (state .entry))) at) v on keep)) ⌝ }
+{
+    let z = number::get16(state, at);
+    number::put16(state, at, summed16(z, v, on, keep));
+}
+
+// A row's lanes: where old Z is kept, a value is added to each; where it is not, the enabled ones receive their values.
+pub fn sum_row16(state: &mut [u8], row: usize, values: &[u16; 32], on: &[bool; 32], keep: bool)
+    ensures { λ _. ⌜ now (state .exit) ≡ cond (eqb (length (now (state .entry))) stateLength)
+        (applied (rowSum 2 row (now (values .entry)) (now (on .entry)) keep) (now (state .entry))) (now (state .entry)) ⌝ }
+{
+    if state.len() != 5120 {
+        return;
+    }
+    if 64 <= row {
+        return;
+    }
+    for i in 0..32 {
+        sum_lane16(state, 1024 + (row * 64 + i * 2), values[i], on[i], keep);
+    }
+}
