@@ -64,3 +64,36 @@ pub fn sum_row16(state: &mut [u8], row: usize, values: &[u16; 32], on: &[bool; 3
         sum_lane16(state, 1024 + (row * 64 + i * 2), values[i], on[i], keep);
     }
 }
+
+// ---- rows of 32-bit lanes
+
+fn summed32(z: u32, v: u32, on: bool, keep: bool) -> u32
+    ensures { λ r. ⌜ r ≡ laneSum 4 z v on keep ⌝ }
+{
+    if keep {
+        return std::num::wrapping_add_u32(z, v);
+    }
+    if on { v } else { z }
+}
+
+fn sum_lane32(state: &mut [u8], at: usize, v: u32, on: bool, keep: bool)
+    ensures { λ _. ⌜ now (state .exit) ≡ sets (now (state .entry)) at (bytesOf 4 (laneSum 4 (number 4 (byteAt (now (state .entry))) at) v on keep)) ⌝ }
+{
+    let z = number::get32(state, at);
+    number::put32(state, at, summed32(z, v, on, keep));
+}
+
+pub fn sum_row32(state: &mut [u8], row: usize, values: &[u32; 16], on: &[bool; 16], keep: bool)
+    ensures { λ _. ⌜ now (state .exit) ≡ cond (eqb (length (now (state .entry))) stateLength)
+        (applied (rowSum 4 row (now (values .entry)) (now (on .entry)) keep) (now (state .entry))) (now (state .entry)) ⌝ }
+{
+    if state.len() != 5120 {
+        return;
+    }
+    if 64 <= row {
+        return;
+    }
+    for i in 0..16 {
+        sum_lane32(state, 1024 + (row * 64 + i * 4), values[i], on[i], keep);
+    }
+}
