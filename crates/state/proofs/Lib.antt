@@ -1,4 +1,5 @@
 pub mod Sets
 pub mod Holds
 pub mod RowLoop
+pub mod RowsLoop
 pub mod Loads
