@@ -68,7 +68,7 @@ unfolding Mac16.on
 on-same op vector = λ t row l. eqb row (same op vector 20 25 tt t) && x-enabled op vector t l
 on-same op matrix16 = λ t row l.
     eqb (row % 2) ((low-bit (kept op matrix16) ∙ same op matrix16 20 20 tt ∙ sym (low-bit op)) t)
-    && x-enabled op matrix16 t l && y-enabled op matrix16 tt tt t (row / 2)
+    && (x-enabled op matrix16 t l && y-enabled op matrix16 tt tt t (row / 2))
 on-same op matrix32 = λ t row l. x-enabled op matrix32 t (2 * l + row % 2) && y-enabled op matrix32 tt tt t (row / 2)
 
 effect-same : (op : ℕ) (form : Form) → Mac16.effect form (kept op form) ≡ Mac16.effect form op

@@ -39,7 +39,7 @@ mac16-placed matrix16 op i j hi hj = record {
   from-x = refl;
   from-y = half (Mac16.zRow op % 2) (omega arith);
   if-both =
-      ap₂ (λ (b : Bool) (y : ℕ). b && Mac16.xEnabled op i && Mac16.yEnabled op y)
+      ap₂ (λ (b : Bool) (y : ℕ). b && (Mac16.xEnabled op i && Mac16.yEnabled op y))
       (eq-eqb ((2 * j + Mac16.zRow op % 2) % 2) (Mac16.zRow op % 2) (omega arith)) (half (Mac16.zRow op % 2) (omega arith));
 }
   where

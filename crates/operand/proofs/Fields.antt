@@ -2,7 +2,7 @@
 -- Assumes nothing.
 use mathlib.Core.Path.{_≡_, refl, sym, ap, _∙_}
 use Prim.Native.Nat.{ℕ, suc, _+_, _-_, _*_, _/_, _%_, _^_, _≤_, _<_}
-use native.Mathlib.Nat.{mod-one, zero-mod, mod-eq-of-lt, div-le-self, mul-comm}
+use native.Mathlib.Nat.{mod-lt, mod-one, zero-mod, mod-eq-of-lt, div-le-self, mul-comm}
 use native.Mathlib.Omega.{arith}
 use lib.Pow.{pow-pos, pow-mono, pow-lt, pow-add, shr-lt}
 use Rattle.isa.specs.Operand.{bits}
@@ -45,3 +45,8 @@ module _ (op first last : ℕ) (size : op < 2 ^ 64) where
 
   pub some-value : first ≤ last → last - first < 63 → 0 < 2 * 2 ^ (last - first) % 2 ^ 64
   some-value h l = rw (values h l) (pow-pos (suc last - first))
+
+-- a field is below the number of its values
+pub bits-lt : (op first last : ℕ) → bits op first last < 2 ^ (suc last - first)
+unfolding bits
+bits-lt op first last = mod-lt (op / 2 ^ first) (pow-pos (suc last - first))

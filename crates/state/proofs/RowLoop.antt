@@ -103,7 +103,7 @@ module _ (e : Effect) (m : ℕ) (fit : m * e .width ≡ 64) (row : ℕ) (s₀ : 
 -- ---- sums
 
 -- a number of bytes is below the span
-number-lt : (b : ℕ) (f : ℕ → ℕ) (p : ℕ) → ((j : ℕ) → f j < 256) → number b f p < span b
+pub number-lt : (b : ℕ) (f : ℕ → ℕ) (p : ℕ) → ((j : ℕ) → f j < 256) → number b f p < span b
 unfolding number
 number-lt zero f p small = omega arith
 number-lt (suc b) f p small = omega (arith, small p, number-lt b f (suc p) small, span-suc b)

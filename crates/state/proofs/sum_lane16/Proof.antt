@@ -30,7 +30,7 @@ same-length c = search needs
 
 -- src/lib.rt:45:1
 returns : tie.Need-returns
-returns c = 
+returns c =
     c .before .before .put16 .ensures
     ∙ ap (λ (n : ℕ). sets (c .before .before .before .before .before .before .before .before .args .state .now) (c .before .before .before .before .before .before .before .before .args .at) (bytesOf 2 n))
     (c .before .before .before .summed16 .ensures ∙ ap (λ (z : ℕ). laneSum 2 z (c .before .before .before .before .before .before .before .before .args .v) (c .before .before .before .before .before .before .before .before .args .on) (c .before .before .before .before .before .before .before .before .args .keep)) (c .before .before .before .before .before .get16 .ensures))

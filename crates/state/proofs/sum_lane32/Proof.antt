@@ -30,7 +30,7 @@ same-length c = search needs
 
 -- src/lib.rt:79:1
 returns : tie.Need-returns
-returns c = 
+returns c =
     c .before .before .put32 .ensures
     ∙ ap (λ (n : ℕ). sets (c .before .before .before .before .before .before .before .before .args .state .now) (c .before .before .before .before .before .before .before .before .args .at) (bytesOf 4 n))
     (c .before .before .before .summed32 .ensures ∙ ap (λ (z : ℕ). laneSum 4 z (c .before .before .before .before .before .before .before .before .args .v) (c .before .before .before .before .before .before .before .before .args .on) (c .before .before .before .before .before .before .before .before .args .keep)) (c .before .before .before .before .before .get32 .ensures))

@@ -1,0 +1,5 @@
+pub mod Sides
+pub mod Rows
+pub mod Counts
+pub mod Meant
+pub mod Whole

@@ -1,0 +1,91 @@
+-- A whole step of each form, from the parts that the code has read.
+-- Assumes nothing.
+use mathlib.Core.Path.{_≡_, refl, sym, ap, _∙_}
+use mathlib.Core.Bool.{Bool, true, false, cond, not, _&&_, _||_}
+use mathlib.Core.List.{List}
+use Prim.Native.Nat.{ℕ, _*_, _/_, _%_, _≤_, _<_}
+use native.Mathlib.Nat.{mod-eq-of-lt, mul-le-mul}
+use native.Mathlib.Omega.{arith}
+use lib.Dec.{eqb}
+use lib.IntN.{ℤ, pos}
+use lib.ListN.{length, getD}
+use borrow.Author.Tests.{eq-eqb}
+use Rattle.number.proofs.Tests.{pick-true, pick-false}
+use Rattle.isa.specs.Operand.{bits, bit}
+use Rattle.isa.specs.Effect.{Effect, applied, lanesOn, count}
+use Rattle.isa.specs.Mac16 as Mac16
+use Rattle.isa.specs.Mac16.{Form, vector, matrix16, matrix32, zWidth, iOf, jOf, formOf}
+use Rattle.state.specs.Rows.{laneSum, rowSum}
+use Rattle.state.proofs.Holds.{Bytes}
+use Rattle.mac16.specs.Products.{term, rowTerms, rowOn, products, xMask, yMask, xFactors, yFactors, productsOf}
+use Rattle.mac16.proofs.Rows.{vector-row}
+use Rattle.mac16.proofs.Counts.{count-mask, count-vector, count-matrix16, count-matrix32}
+use Rattle.mac16.proofs.Meant.{meant}
+
+-- matrix 16 has Z row modulo 2, and matrix 32 none of it
+row-modulo : (p z : ℕ) → p ≡ z % 2 → rowOn matrix16 p ≡ rowOn matrix16 z
+unfolding rowOn
+row-modulo p z e =
+    let same : p % 2 ≡ z % 2 = omega arith in
+    λ t yon row. eqb (row % 2) (same t) && getD yon (row / 2) false
+
+module _ (op : ℕ) (s t : List ℕ) (on : List Bool) (xs ys : List ℤ) (sh : ℕ) (keep : Bool)
+    (eo : on ≡ xMask op) (ex : xs ≡ xFactors op s on) (ey : ys ≡ yFactors op s) (es : sh ≡ bits op 55 59) (small : sh < 32) (ek : keep ≡ not (bit op 27)) where
+  shift : sh % 32 ≡ bits op 55 59
+  shift = mod-eq-of-lt small ∙ es
+
+  factors : xs ≡ xFactors op s (xMask op)
+  factors = ex ∙ ap (xFactors op s) eo
+
+  pub vector-is : (z : ℕ) → length s ≡ 5120 → Bytes s → z ≡ bits op 20 25
+      → t ≡ cond (eqb (length s) 5120) (applied (rowSum 2 z (rowTerms 2 32 (sh % 32) xs ys) on keep) s) s → t ≡ applied (productsOf vector op s) s
+  vector-is z size bytes ez et =
+      et ∙ pick-true _ _ (eq-eqb (length s) 5120 size)
+      ∙ (λ i. applied (rowSum 2 (ez i) (rowTerms 2 32 (shift i) (factors i) (ey i)) (eo i) (ek i)) s)
+      ∙ vector-row (bits op 20 25) (xFactors op s (xMask op)) (xMask op) (yFactors op s) (yMask op) (bits op 55 59) (not (bit op 27)) s size bytes
+
+  module _ (yon : List Bool) (en : yon ≡ yMask op) where
+    pub matrix16-is : (p z : ℕ) → z ≡ bits op 20 25 → p ≡ z % 2 → t ≡ applied (products matrix16 p xs on ys yon (sh % 32) keep) s → t ≡ applied (productsOf matrix16 op s) s
+    matrix16-is p z ez ep et =
+        et
+        ∙ (λ i. applied (products matrix16 p (factors i) (eo i) (ey i) (en i) (shift i) (ek i)) s)
+        ∙ (λ i. applied (record {
+          width = 2;
+          on = λ row l. row-modulo p (bits op 20 25) (ep ∙ ap (λ (n : ℕ). n % 2) ez) i (yMask op) row && (not (bit op 27) || getD (xMask op) l false);
+          new = products matrix16 p (xFactors op s (xMask op)) (xMask op) (yFactors op s) (yMask op) (bits op 55 59) (not (bit op 27)) .new;
+          adds = not (bit op 27);
+        }) s)
+
+    pub matrix32-is : t ≡ applied (products matrix32 0 xs on ys yon (sh % 32) keep) s → t ≡ applied (productsOf matrix32 op s) s
+    unfolding rowOn
+    matrix32-is et = et ∙ (λ i. applied (products matrix32 (Mac16.zRow op) (factors i) (eo i) (ey i) (en i) (shift i) (ek i)) s)
+
+-- ---- counts
+
+-- two counts of 32 lanes at most
+pub below-product : (r q : ℕ) → r ≤ 32 → q ≤ 32 → r * q ≤ 1024
+below-product r q h l = mul-le-mul h l
+
+pub vector-count : (op : ℕ) (on : List Bool) (r : ℕ) → on ≡ xMask op → r ≡ count (λ i. getD on i false) 32 → r ≡ lanesOn (Mac16.effect vector op)
+vector-count op on r eo er = count-mask (Mac16.xEnabled op) on 32 r eo er ∙ sym (count-vector op)
+
+module _ (op : ℕ) (on yon : List Bool) (r q : ℕ) (eo : on ≡ xMask op) (en : yon ≡ yMask op)
+    (er : r ≡ count (λ i. getD on i false) 32) (eq : q ≡ count (λ i. getD yon i false) 32) where
+  both : r * q ≡ count (Mac16.xEnabled op) 32 * count (Mac16.yEnabled op) 32
+  both = λ t. count-mask (Mac16.xEnabled op) on 32 r eo er t * count-mask (Mac16.yEnabled op) yon 32 q en eq t
+
+  pub matrix16-count : r * q ≡ lanesOn (Mac16.effect matrix16 op)
+  matrix16-count = both ∙ sym (count-matrix16 op)
+
+  pub matrix32-count : r * q ≡ lanesOn (Mac16.effect matrix32 op)
+  matrix32-count = both ∙ sym (count-matrix32 op)
+
+-- ---- the step, by the form
+
+module _ (op : ℕ) (s t : List ℕ) (r : ℕ) (size : length s ≡ 5120) (bytes : Bytes s) where
+  pub by-form : (form : Form) → formOf op ≡ form → (t ≡ applied (productsOf form op s) s) × (r ≡ lanesOn (Mac16.effect form op))
+      → (t ≡ cond (eqb (length s) 5120) (applied (Mac16.mac16 op) s) s) × (r ≡ cond (eqb (length s) 5120) (lanesOn (Mac16.mac16 op)) 0)
+  by-form form e h = (
+    h .0 ∙ meant op s bytes form size ∙ ap (λ (f : Form). applied (Mac16.effect f op) s) (sym e) ∙ sym (pick-true _ _ (eq-eqb (length s) 5120 size)),
+    h .1 ∙ ap (λ (f : Form). lanesOn (Mac16.effect f op)) (sym e) ∙ sym (pick-true _ _ (eq-eqb (length s) 5120 size)),
+  )
