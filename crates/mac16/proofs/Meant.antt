@@ -8,7 +8,7 @@ use native.Mathlib.Nat.{zero-add, add-zero, mod-eq-of-lt, zero-div, zero-mod, on
 use native.Mathlib.Omega.{arith}
 use lib.Dec.{eqb}
 use lib.IntN.{ℤ, pos, negsuc, negℤ, _+ℤ_, _*ℤ_}
-use lib.ListN.{length, take, getD, replicate, getD-replicate}
+use lib.ListN.{length, take, getD}
 use lib.Seq.{getD-take}
 use Rattle.number.specs.Bytes.{span, byteAt, number, table}
 use Rattle.number.specs.Integers.{signed, wrap, _≫_}
@@ -22,9 +22,9 @@ use Rattle.isa.specs.Mac16 as Mac16
 use Rattle.isa.specs.Mac16.{Form, vector, matrix16, matrix32, zWidth, iOf, jOf, xEnabled, yEnabled}
 use Rattle.state.specs.Rows.{laneSum}
 use Rattle.state.proofs.Holds.{Bytes, laneAfter}
-use Rattle.state.proofs.RowLoop.{number-lt}
+use Rattle.state.proofs.RunLoop.{number-lt}
 use Rattle.state.proofs.RowsLoop.{same-lanes}
-use Rattle.mac16.specs.Products.{factor, otherThanX, term, rowOn, products, loadedBytes, xMask, yMask, xFactors, yFactors, productsOf}
+use Rattle.mac16.specs.Products.{side, masked, otherThanX, term, rowOn, products, loadedBytes, xMask, yMask, xFactors, yFactors, productsOf}
 
 -- ---- lists by their elements
 
@@ -47,17 +47,18 @@ module _ (op : ℕ) (s : List ℕ) where
   xy = take 1024 s
 
   x-factor : (i : ℕ) → i < 32 → getD (xFactors op s (xMask op)) i (pos 0) ≡ cond (xEnabled op i) (cond (bit op 29) (otherThanX op) (Mac16.xLane op xy i)) (pos 0)
-  unfolding xFactors factor Mac16.xLane xy
+  unfolding xFactors masked side Mac16.xLane xy
   x-factor i h =
       at (pos 0) _ 32 i h
-      ∙ ap₂ (λ (on : Bool) (x : ℤ). cond on (cond (bit op 29) (otherThanX op) x) (pos 0)) (at false (xEnabled op) 32 i h)
+      ∙ ap₂ (λ (on : Bool) (x : ℤ). cond on x (pos 0)) (at false (xEnabled op) 32 i h) (at (pos 0) _ 32 i h)
+      ∙ ap (λ (x : ℤ). cond (xEnabled op i) (cond (bit op 29) (otherThanX op) x) (pos 0))
       (lane-same (bit op 61) (byteAt (loadedBytes s xBase (bits op 10 18))) (loaded (take 1024 s) xBase (bits op 10 18)) i h (λ p l. loaded-same s xBase (bits op 10 18) p (omega arith) l))
 
   y-factor : (j : ℕ) → j < 32 → getD (yFactors op s) j (pos 0) ≡ cond (bit op 28) (pos 1) (Mac16.yLane op xy j)
-  unfolding yFactors factor Mac16.yLane xy
+  unfolding yFactors side Mac16.yLane xy
   y-factor j h =
       at (pos 0) _ 32 j h
-      ∙ ap₂ (λ (on : Bool) (y : ℤ). cond on (cond (bit op 28) (pos 1) y) (pos 0)) (getD-replicate 32 j true false h)
+      ∙ ap (λ (y : ℤ). cond (bit op 28) (pos 1) y)
       (lane-same (bit op 60) (byteAt (loadedBytes s yBase (bits op 0 8))) (loaded (take 1024 s) yBase (bits op 0 8)) j h (λ p l. loaded-same s yBase (bits op 0 8) p (omega arith) l))
 
 -- ---- the product is the value

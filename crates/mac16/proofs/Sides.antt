@@ -5,21 +5,45 @@ use mathlib.Core.Bool.{Bool, true, false, cond}
 use mathlib.Core.List.{List}
 use Prim.Native.Nat.{ℕ, _+_, _*_, _%_, _<_}
 use lib.IntN.{ℤ, pos}
-use lib.ListN.{replicate}
-use Rattle.number.specs.Bytes.{table}
+use native.Mathlib.Omega.{arith}
+use lib.ListN.{length, getD, replicate, length-replicate, getD-replicate}
+use lib.Seq.{ext-getD}
+use Rattle.number.proofs.Bytes.{length-table, getD-table}
+use Rattle.number.proofs.Tests.{pick-true, pick-false}
+use Rattle.isa.specs.Mac16 as Mac16
+use Rattle.number.specs.Bytes.{byteAt, table}
 use Rattle.isa.specs.Operand.{bits, bit}
 use Rattle.isa.specs.State.{xBase, yBase}
-use Rattle.mac16.specs.Products.{factor, otherThanX, loadedBytes, xFactors, yFactors}
+use Rattle.mac16.specs.Products.{side, masked, otherThanX, loadedBytes, xFactors, yFactors}
+
+-- a list of one number
+pub same-all : (n : ℕ) (other : ℤ) → replicate n other ≡ table (λ i. other) 0 n
+same-all n other =
+    ext-getD (pos 0) (replicate n other) (table (λ i. other) 0 n) (length-replicate n other ∙ sym (length-table (λ i. other) 0 n))
+    (λ i h.
+    let l : i < n = omega (arith, length-replicate n other) in
+    getD-replicate n i other (pos 0) l ∙ sym (getD-table (λ i. other) (pos 0) 0 n i l))
+
+-- a side, by the branches of the code
+module _ (i8 skip : Bool) (other : ℤ) (bytes : List ℕ) where
+  pub side-skipped : skip ≡ true → table (λ i. other) 0 32 ≡ table (side i8 skip other bytes) 0 32
+  unfolding side
+  side-skipped e = λ t. table (λ i. sym (pick-true other (Mac16.lane i8 (byteAt bytes) i) e) t) 0 32
+
+  pub side-lanes : (kind : Bool) → skip ≡ false → kind ≡ i8 → table (Mac16.lane kind (byteAt bytes)) 0 32 ≡ table (side i8 skip other bytes) 0 32
+  unfolding side
+  side-lanes kind e k =
+      (λ t. table (Mac16.lane (k t) (byteAt bytes)) 0 32) ∙ (λ t. table (λ i. sym (pick-false other (Mac16.lane i8 (byteAt bytes) i) e) t) 0 32)
 
 -- from the parts that the code has read
 module _ (op : ℕ) (s : List ℕ) (r : List ℤ) (bytes : List ℕ) (offset : ℕ) (i8 skip : Bool) where
-  pub x-factors-are : (on : List Bool) (other : ℤ) → r ≡ table (factor i8 skip other on bytes) 0 32
+  pub x-factors-are : (on : List Bool) (other : ℤ) (xs : List ℤ) → r ≡ masked on xs → xs ≡ table (side i8 skip other bytes) 0 32
       → bytes ≡ loadedBytes s xBase offset → offset ≡ bits op 10 18 → i8 ≡ bit op 61 → skip ≡ bit op 29 → other ≡ otherThanX op → r ≡ xFactors op s on
   unfolding xFactors
-  x-factors-are on other er eb eo e8 es ex =
-      er ∙ (λ t. table (factor (e8 t) (es t) (ex t) on ((eb ∙ ap (loadedBytes s xBase) eo) t)) 0 32)
+  x-factors-are on other xs er ex eb eo e8 es et =
+      er ∙ ap (masked on) (ex ∙ (λ t. table (side (e8 t) (es t) (et t) ((eb ∙ ap (loadedBytes s xBase) eo) t)) 0 32))
 
-  pub y-factors-are : r ≡ table (factor i8 skip (pos 1) (replicate 32 true) bytes) 0 32
+  pub y-factors-are : r ≡ table (side i8 skip (pos 1) bytes) 0 32
       → bytes ≡ loadedBytes s yBase offset → offset ≡ bits op 0 8 → i8 ≡ bit op 60 → skip ≡ bit op 28 → r ≡ yFactors op s
   unfolding yFactors
-  y-factors-are er eb eo e8 es = er ∙ (λ t. table (factor (e8 t) (es t) (pos 1) (replicate 32 true) ((eb ∙ ap (loadedBytes s yBase) eo) t)) 0 32)
+  y-factors-are er eb eo e8 es = er ∙ (λ t. table (side (e8 t) (es t) (pos 1) ((eb ∙ ap (loadedBytes s yBase) eo) t)) 0 32)

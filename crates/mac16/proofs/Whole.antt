@@ -15,7 +15,7 @@ use Rattle.isa.specs.Operand.{bits, bit}
 use Rattle.isa.specs.Effect.{Effect, applied, lanesOn, count}
 use Rattle.isa.specs.Mac16 as Mac16
 use Rattle.isa.specs.Mac16.{Form, vector, matrix16, matrix32, zWidth, iOf, jOf, formOf}
-use Rattle.state.specs.Rows.{laneSum, rowSum}
+use Rattle.state.specs.Rows.{runSum}
 use Rattle.state.proofs.Holds.{Bytes}
 use Rattle.mac16.specs.Products.{term, rowTerms, rowOn, products, xMask, yMask, xFactors, yFactors, productsOf}
 use Rattle.mac16.proofs.Rows.{vector-row}
@@ -38,10 +38,10 @@ module _ (op : ℕ) (s t : List ℕ) (on : List Bool) (xs ys : List ℤ) (sh : �
   factors = ex ∙ ap (xFactors op s) eo
 
   pub vector-is : (z : ℕ) → length s ≡ 5120 → Bytes s → z ≡ bits op 20 25
-      → t ≡ cond (eqb (length s) 5120) (applied (rowSum 2 z (rowTerms 2 32 (sh % 32) xs ys) on keep) s) s → t ≡ applied (productsOf vector op s) s
+      → t ≡ cond (eqb (length s) 5120) (applied (runSum 2 z 1 (rowTerms 2 32 (sh % 32) xs ys) on keep) s) s → t ≡ applied (productsOf vector op s) s
   vector-is z size bytes ez et =
       et ∙ pick-true _ _ (eq-eqb (length s) 5120 size)
-      ∙ (λ i. applied (rowSum 2 (ez i) (rowTerms 2 32 (shift i) (factors i) (ey i)) (eo i) (ek i)) s)
+      ∙ (λ i. applied (runSum 2 (ez i) 1 (rowTerms 2 32 (shift i) (factors i) (ey i)) (eo i) (ek i)) s)
       ∙ vector-row (bits op 20 25) (xFactors op s (xMask op)) (xMask op) (yFactors op s) (yMask op) (bits op 55 59) (not (bit op 27)) s size bytes
 
   module _ (yon : List Bool) (en : yon ≡ yMask op) where

@@ -1,11 +1,11 @@
 -- What the code has of a step: the factors of X and Y as lists, the lanes of a row as products of them, and their effect.
 -- Assumes nothing.
-use mathlib.Core.Bool.{Bool, true, false, cond, not, _&&_, _||_}
+use mathlib.Core.Bool.{Bool, false, cond, not, _&&_, _||_}
 use mathlib.Core.List.{List}
 use Prim.Native.Nat.{ℕ, _+_, _*_, _/_, _%_}
 use lib.Dec.{eqb}
 use lib.IntN.{ℤ, pos, _*ℤ_}
-use lib.ListN.{getD, replicate}
+use lib.ListN.{getD}
 use Rattle.number.specs.Bytes.{span, byteAt, table}
 use Rattle.number.specs.Integers.{wrap, _≫_}
 use Rattle.isa.specs.Operand.{bits, bit}
@@ -15,9 +15,13 @@ use Rattle.isa.specs.Mac16 as Mac16
 use Rattle.isa.specs.Mac16.{Form, vector, matrix16, matrix32, zWidth, iOf, jOf}
 use Rattle.state.specs.Rows.{laneSum}
 
--- A factor: the lane, or another number where the side is skipped; 0 where the lane is off, so that nothing is added there.
-unfoldable pub factor : Bool → Bool → ℤ → List Bool → List ℕ → ℕ → ℤ
-factor i8 skip other on bytes i = cond (getD on i false) (cond skip other (Mac16.lane i8 (byteAt bytes) i)) (pos 0)
+-- A side's number: the lane, or another number where the side is skipped.
+unfoldable pub side : Bool → Bool → ℤ → List ℕ → ℕ → ℤ
+side i8 skip other bytes i = cond skip other (Mac16.lane i8 (byteAt bytes) i)
+
+-- 0 where the lane is off, so that nothing is added there
+unfoldable pub masked : List Bool → List ℤ → List ℤ
+masked on xs = table (λ i. cond (getD on i false) (getD xs i (pos 0)) (pos 0)) 0 32
 
 -- Where X is skipped its factor is 1, so that y is left; where both are, 0.
 abbrev pub otherThanX : ℕ → ℤ
@@ -31,9 +35,9 @@ term b s x y = wrap (span b) ((x *ℤ y) ≫ s)
 unfoldable pub rowTerms : ℕ → ℕ → ℕ → List ℤ → List ℤ → List ℕ
 rowTerms b m s xs ys = table (λ i. term b s (getD xs i (pos 0)) (getD ys i (pos 0))) 0 m
 
--- every other element of a list, from p on
-unfoldable pub half {ℓ} : {A : Type ℓ} → A → ℕ → List A → List A
-half d p l = table (λ i. getD l (2 * i + p) d) 0 16
+-- the even elements of a list of 32, and then the odd ones
+unfoldable pub split {ℓ} : {A : Type ℓ} → A → List A → List A
+split d l = table (λ k. getD l (2 * (k % 16) + k / 16) d) 0 32
 
 -- the rows that a form writes
 unfoldable pub rowOn : Form → ℕ → List Bool → ℕ → Bool
@@ -65,10 +69,10 @@ abbrev pub yMask : ℕ → List Bool
 yMask op = table (Mac16.yEnabled op) 0 32
 
 unfoldable pub xFactors : ℕ → List ℕ → List Bool → List ℤ
-xFactors op s on = table (factor (bit op 61) (bit op 29) (otherThanX op) on (loadedBytes s xBase (bits op 10 18))) 0 32
+xFactors op s on = masked on (table (side (bit op 61) (bit op 29) (otherThanX op) (loadedBytes s xBase (bits op 10 18))) 0 32)
 
 unfoldable pub yFactors : ℕ → List ℕ → List ℤ
-yFactors op s = table (factor (bit op 60) (bit op 28) (pos 1) (replicate 32 true) (loadedBytes s yBase (bits op 0 8))) 0 32
+yFactors op s = table (side (bit op 60) (bit op 28) (pos 1) (loadedBytes s yBase (bits op 0 8))) 0 32
 
 -- the effect of a form, with an operand's lists
 abbrev pub productsOf : Form → ℕ → List ℕ → Effect

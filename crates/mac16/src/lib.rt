@@ -12,42 +12,57 @@ ghost use Rattle.isa.specs.Effect.{applied, lanesOn, count};
 ghost use Rattle.isa.specs.Enable.{mac16Enables};
 ghost use Rattle.isa.specs.Mac16 as Mac16;
 ghost use Rattle.isa.specs.Mac16.{vector, matrix16, matrix32};
-ghost use Rattle.state.specs.Rows.{rowSum};
-ghost use Rattle.mac16.specs.Products.{factor, otherThanX, term, rowTerms, half, products, xMask, yMask, xFactors, yFactors, productsOf};
+ghost use Rattle.state.specs.Rows.{runSum};
+ghost use Rattle.mac16.specs.Products.{side, masked, otherThanX, term, rowTerms, split, products, xMask, yMask, xFactors, yFactors, productsOf};
 
 // ---- factors
 
-// Lane i of 64 bytes, as i16 or as the i8 in its low byte.
-fn lane(bytes: &[u8], i: usize, byte: bool) -> i16
-    requires { ⌜ i < 32 ⌝ }
-    ensures { λ r. ⌜ r ≡ Mac16.lane byte (byteAt (now (bytes .entry))) i ⌝ }
-{
-    if byte {
-        return number::signed8(number::get8(bytes, 2 * i));
-    }
-    number::signed16(number::get16(bytes, 2 * i))
-}
-
-fn factor_at(bytes: &[u8], i: usize, byte: bool, skip: bool, other: i16, on: bool) -> i16
-    requires { ⌜ i < 32 ⌝ }
-    ensures { λ r. ⌜ r ≡ cond on (cond skip other (Mac16.lane byte (byteAt (now (bytes .entry))) i)) (pos 0) ⌝ }
-{
-    if !on {
-        return 0;
-    }
-    if skip {
-        return other;
-    }
-    lane(bytes, i, byte)
-}
-
-// The 32 factors of a side.
-fn factors(bytes: &[u8], byte: bool, skip: bool, other: i16, on: &[bool; 32]) -> [i16; 32]
-    ensures { λ r. ⌜ r ≡ table (factor byte skip other (now (on .entry)) (now (bytes .entry))) 0 32 ⌝ }
+// The 32 lanes of 64 bytes, as i16 and as the i8 in the low byte of each.
+fn lanes16(bytes: &[u8]) -> [i16; 32]
+    ensures { λ r. ⌜ r ≡ table (Mac16.lane false (byteAt (now (bytes .entry)))) 0 32 ⌝ }
 {
     let mut out = [0i16; 32];
     for i in 0..32 {
-        out[i] = factor_at(bytes, i, byte, skip, other, on[i]);
+        out[i] = number::signed16(number::get16(bytes, 2 * i));
+    }
+    out
+}
+
+fn lanes8(bytes: &[u8]) -> [i16; 32]
+    ensures { λ r. ⌜ r ≡ table (Mac16.lane true (byteAt (now (bytes .entry)))) 0 32 ⌝ }
+{
+    let mut out = [0i16; 32];
+    for i in 0..32 {
+        out[i] = number::signed8(number::get8(bytes, 2 * i));
+    }
+    out
+}
+
+// The 32 numbers of a side.
+fn side_of(bytes: &[u8], byte: bool, skip: bool, other: i16) -> [i16; 32]
+    ensures { λ r. ⌜ r ≡ table (side byte skip other (now (bytes .entry))) 0 32 ⌝ }
+{
+    if skip {
+        return [other; 32];
+    }
+    if byte {
+        return lanes8(bytes);
+    }
+    lanes16(bytes)
+}
+
+fn kept_if(x: i16, on: bool) -> i16
+    ensures { λ r. ⌜ r ≡ cond on x (pos 0) ⌝ }
+{
+    if on { x } else { 0 }
+}
+
+fn masked_by(on: &[bool; 32], xs: &[i16; 32]) -> [i16; 32]
+    ensures { λ r. ⌜ r ≡ masked (now (on .entry)) (now (xs .entry)) ⌝ }
+{
+    let mut out = [0i16; 32];
+    for i in 0..32 {
+        out[i] = kept_if(xs[i], on[i]);
     }
     out
 }
@@ -76,11 +91,11 @@ fn terms16(xs: &[i16; 32], ys: &[i16; 32], s: u32) -> [u16; 32]
     out
 }
 
-fn terms32(xs: &[i16; 16], ys: &[i16; 16], s: u32) -> [u32; 16]
-    ensures { λ r. ⌜ r ≡ rowTerms 4 16 (s % 32) (now (xs .entry)) (now (ys .entry)) ⌝ }
+fn terms32(xs: &[i16; 32], ys: &[i16; 32], s: u32) -> [u32; 32]
+    ensures { λ r. ⌜ r ≡ rowTerms 4 32 (s % 32) (now (xs .entry)) (now (ys .entry)) ⌝ }
 {
-    let mut out = [0u32; 16];
-    for i in 0..16 {
+    let mut out = [0u32; 32];
+    for i in 0..32 {
         out[i] = term32(xs[i], ys[i], s);
     }
     out
@@ -128,27 +143,15 @@ fn x_factors(state: &[u8], op: u64, on: &[bool; 32]) -> [i16; 32]
     ensures { λ r. ⌜ r ≡ xFactors op (now (state .entry)) (now (on .entry)) ⌝ }
 {
     let bytes = state::load(state, false, operand::field(op, 10, 18));
-    factors(
-        &bytes,
-        operand::flag(op, 61),
-        operand::flag(op, 29),
-        other_than_x(op),
-        on,
-    )
+    let xs = side_of(&bytes, operand::flag(op, 61), operand::flag(op, 29), other_than_x(op));
+    masked_by(on, &xs)
 }
 
 fn y_factors(state: &[u8], op: u64) -> [i16; 32]
     ensures { λ r. ⌜ r ≡ yFactors op (now (state .entry)) ⌝ }
 {
     let bytes = state::load(state, true, operand::field(op, 0, 8));
-    let all = [true; 32];
-    factors(
-        &bytes,
-        operand::flag(op, 60),
-        operand::flag(op, 28),
-        1,
-        &all,
-    )
+    side_of(&bytes, operand::flag(op, 60), operand::flag(op, 28), 1)
 }
 
 // ---- rows
@@ -163,26 +166,18 @@ fn row16(
     keep: bool,
 )
     ensures { λ _. ⌜ now (state .exit) ≡ cond (eqb (length (now (state .entry))) stateLength)
-        (applied (rowSum 2 row (rowTerms 2 32 (s % 32) (now (xs .entry)) (now (ys .entry))) (now (on .entry)) keep) (now (state .entry))) (now (state .entry)) ⌝ }
+        (applied (runSum 2 row 1 (rowTerms 2 32 (s % 32) (now (xs .entry)) (now (ys .entry))) (now (on .entry)) keep) (now (state .entry))) (now (state .entry)) ⌝ }
 {
     let terms = terms16(xs, ys, s);
     state::sum_row16(state, row, &terms, on, keep);
 }
 
-fn row32(
-    state: &mut [u8],
-    row: usize,
-    xs: &[i16; 16],
-    ys: &[i16; 16],
-    on: &[bool; 16],
-    s: u32,
-    keep: bool,
-)
+fn pair32(state: &mut [u8], j: usize, xs: &[i16; 32], ys: &[i16; 32], on: &[bool; 32], s: u32, keep: bool)
     ensures { λ _. ⌜ now (state .exit) ≡ cond (eqb (length (now (state .entry))) stateLength)
-        (applied (rowSum 4 row (rowTerms 4 16 (s % 32) (now (xs .entry)) (now (ys .entry))) (now (on .entry)) keep) (now (state .entry))) (now (state .entry)) ⌝ }
+        (applied (runSum 4 (j * 2) 2 (rowTerms 4 32 (s % 32) (now (xs .entry)) (now (ys .entry))) (now (on .entry)) keep) (now (state .entry))) (now (state .entry)) ⌝ }
 {
     let terms = terms32(xs, ys, s);
-    state::sum_row32(state, row, &terms, on, keep);
+    state::sum_pair32(state, j, &terms, on, keep);
 }
 
 // Row 2 j + p of matrix 16, where Y lane j is enabled.
@@ -199,7 +194,7 @@ fn matrix16_row(
 )
     requires { ⌜ (length (now state) ≡ stateLength) × (j < 32) × (p < 2) ⌝ }
     ensures { λ _. ⌜ now (state .exit) ≡ cond (getD (now (yon .entry)) j false)
-        (applied (rowSum 2 (2 * j + p) (rowTerms 2 32 (s % 32) (now (xs .entry)) (replicate 32 (getD (now (ys .entry)) j (pos 0)))) (now (on .entry)) keep) (now (state .entry)))
+        (applied (runSum 2 (2 * j + p) 1 (rowTerms 2 32 (s % 32) (now (xs .entry)) (replicate 32 (getD (now (ys .entry)) j (pos 0)))) (now (on .entry)) keep) (now (state .entry)))
         (now (state .entry)) ⌝ }
 {
     if !yon[j] {
@@ -228,98 +223,50 @@ fn matrix16(
     }
 }
 
-// Every other X lane, from p on, and its mask.
-fn half_of(xs: &[i16; 32], p: usize) -> [i16; 16]
-    requires { ⌜ p < 2 ⌝ }
-    ensures { λ r. ⌜ r ≡ half (pos 0) p (now (xs .entry)) ⌝ }
+// The even X lanes and then the odd ones, as the two rows of a pair have them; the same for their mask.
+fn split_lanes(xs: &[i16; 32]) -> [i16; 32]
+    ensures { λ r. ⌜ r ≡ split (pos 0) (now (xs .entry)) ⌝ }
 {
-    let mut out = [0i16; 16];
-    for i in 0..16 {
-        out[i] = xs[2 * i + p];
+    let mut out = [0i16; 32];
+    for k in 0..32 {
+        out[k] = xs[2 * (k % 16) + k / 16];
     }
     out
 }
 
-fn half_mask(on: &[bool; 32], p: usize) -> [bool; 16]
-    requires { ⌜ p < 2 ⌝ }
-    ensures { λ r. ⌜ r ≡ half false p (now (on .entry)) ⌝ }
+fn split_mask(on: &[bool; 32]) -> [bool; 32]
+    ensures { λ r. ⌜ r ≡ split false (now (on .entry)) ⌝ }
 {
-    let mut out = [false; 16];
-    for i in 0..16 {
-        out[i] = on[2 * i + p];
+    let mut out = [false; 32];
+    for k in 0..32 {
+        out[k] = on[2 * (k % 16) + k / 16];
     }
     out
 }
 
-// A row of matrix 32, where its Y lane is enabled; xs and on are the X lanes of its parity.
-fn matrix32_row(
-    state: &mut [u8],
-    row: usize,
-    xs: &[i16; 16],
-    on: &[bool; 16],
-    ys: &[i16; 32],
-    yon: &[bool; 32],
-    s: u32,
-    keep: bool,
-)
-    requires { ⌜ (length (now state) ≡ stateLength) × (row < 64) ⌝ }
-    ensures { λ _. ⌜ now (state .exit) ≡ cond (getD (now (yon .entry)) (row / 2) false)
-        (applied (rowSum 4 row (rowTerms 4 16 (s % 32) (now (xs .entry)) (replicate 16 (getD (now (ys .entry)) (row / 2) (pos 0)))) (now (on .entry)) keep) (now (state .entry)))
+// Rows 2 j and 2 j + 1 of matrix 32, where Y lane j is enabled; xs and on are split.
+fn matrix32_pair(state: &mut [u8], j: usize, xs: &[i16; 32], on: &[bool; 32], ys: &[i16; 32], yon: &[bool; 32], s: u32, keep: bool)
+    requires { ⌜ (length (now state) ≡ stateLength) × (j < 32) ⌝ }
+    ensures { λ _. ⌜ now (state .exit) ≡ cond (getD (now (yon .entry)) j false)
+        (applied (runSum 4 (j * 2) 2 (rowTerms 4 32 (s % 32) (now (xs .entry)) (replicate 32 (getD (now (ys .entry)) j (pos 0)))) (now (on .entry)) keep) (now (state .entry)))
         (now (state .entry)) ⌝ }
 {
-    let j = row / 2;
     if !yon[j] {
         return;
     }
     let y = ys[j];
-    let same = [y; 16];
-    row32(state, row, xs, &same, on, s, keep);
+    let same = [y; 32];
+    pair32(state, j, xs, &same, on, s, keep);
 }
 
-// A row of matrix 32, with the even X lanes or the odd ones by its parity.
-fn matrix32_turn(
-    state: &mut [u8],
-    row: usize,
-    x0: &[i16; 16],
-    on0: &[bool; 16],
-    x1: &[i16; 16],
-    on1: &[bool; 16],
-    ys: &[i16; 32],
-    yon: &[bool; 32],
-    s: u32,
-    keep: bool,
-)
-    requires { ⌜ (length (now state) ≡ stateLength) × (row < 64) ⌝ }
-    ensures { λ _. ⌜ now (state .exit) ≡ cond (getD (now (yon .entry)) (row / 2) false)
-        (applied (rowSum 4 row (rowTerms 4 16 (s % 32) (cond (eqb (row % 2) 0) (now (x0 .entry)) (now (x1 .entry))) (replicate 16 (getD (now (ys .entry)) (row / 2) (pos 0))))
-        (cond (eqb (row % 2) 0) (now (on0 .entry)) (now (on1 .entry))) keep) (now (state .entry)))
-        (now (state .entry)) ⌝ }
-{
-    if row % 2 == 0 {
-        matrix32_row(state, row, x0, on0, ys, yon, s, keep);
-        return;
-    }
-    matrix32_row(state, row, x1, on1, ys, yon, s, keep);
-}
-
-fn matrix32(
-    state: &mut [u8],
-    xs: &[i16; 32],
-    on: &[bool; 32],
-    ys: &[i16; 32],
-    yon: &[bool; 32],
-    s: u32,
-    keep: bool,
-)
+fn matrix32(state: &mut [u8], xs: &[i16; 32], on: &[bool; 32], ys: &[i16; 32], yon: &[bool; 32], s: u32, keep: bool)
     requires { ⌜ length (now state) ≡ stateLength ⌝ }
     ensures { λ _. ⌜ now (state .exit) ≡ applied (products Mac16.matrix32 0 (now (xs .entry)) (now (on .entry)) (now (ys .entry)) (now (yon .entry)) (s % 32) keep) (now (state .entry)) ⌝ }
 {
-    let x0 = half_of(xs, 0);
-    let on0 = half_mask(on, 0);
-    let x1 = half_of(xs, 1);
-    let on1 = half_mask(on, 1);
-    for row in 0..64 {
-        matrix32_turn(state, row, &x0, &on0, &x1, &on1, ys, yon, s, keep);
+    let lanes = split_lanes(xs);
+    let mask = split_mask(on);
+    for j in 0..32 {
+        matrix32_pair(state, j, &lanes, &mask, ys, yon, s, keep);
     }
 }
 

@@ -1,5 +1,5 @@
 pub mod Sets
 pub mod Holds
-pub mod RowLoop
+pub mod RunLoop
 pub mod RowsLoop
 pub mod Loads

@@ -6,15 +6,16 @@ use mathlib.Core.List.{List}
 use mathlib.Core.Logic.{⊎-elim}
 use Prim.Native.Nat.{ℕ, _+_, _*_, _%_, _≤_, _<_}
 use native.Mathlib.Omega.{arith}
-use lib.Dec.{eqb, ltb}
+use lib.Dec.{ltb}
 use lib.ListN.{length, take}
-use borrow.Author.Tests.{lt-ltb, le-ltb, eqb-true, eqb-false}
+use borrow.Author.Tests.{lt-ltb, le-ltb}
 use Rattle.number.specs.Bytes.{span, byteAt, number}
-use Rattle.number.proofs.Tests.{two, pick-true, pick-false, lt-or-le}
+use Rattle.number.proofs.Tests.{pick-true, pick-false, lt-or-le}
 use Rattle.isa.specs.State.{start}
 use Rattle.isa.specs.Effect.{Effect, newLane, applied}
 use Rattle.state.proofs.Holds.{Bytes, laneAfter, Holds, holds-start, holds-same, holds-applied, holds-end, bytes-applied}
-use Rattle.state.proofs.RowLoop.{InRow}
+use Rattle.state.specs.Rows.{among}
+use Rattle.state.proofs.RunLoop.{InRun, among-before, among-after}
 
 module _ (E : Effect) (m : ℕ) (fit : m * E .width ≡ 64) (s₀ : List ℕ) where
   abbrev old : ℕ → ℕ → ℕ
@@ -44,35 +45,25 @@ module _ (E : Effect) (m : ℕ) (fit : m * E .width ≡ 64) (s₀ : List ℕ) wh
       (lt-or-le r n′))
       (lt-or-le r n))
 
-  -- one row of those from n on, and the others with no lane enabled
-  module _ (e : ℕ → ℕ → Bool) (new : List ℕ → ℕ → ℕ → ℕ → ℕ) (a : Bool) (row : ℕ) where
-    abbrev one : Effect
-    one = record { width = E .width; on = e; new = new; adds = a }
+  -- a run of those from n on, and the others with no lane enabled
+  module _ (on : ℕ → ℕ → Bool) (new : List ℕ → ℕ → ℕ → ℕ → ℕ) (a : Bool) (row c : ℕ) where
+    abbrev run : Effect
+    run = record { width = E .width; on = on; new = new; adds = a }
 
-    pub rows-more : (n n′ : ℕ) (s t : List ℕ) → n ≤ row → row < n′ → InRow one row
-        → ((l : ℕ) → l < m → cond (e row l) (new (take 1024 s₀) row l (old row l) % span (E .width)) (old row l) ≡ laneAfter E s₀ row l)
-        → ((r l : ℕ) → n ≤ r → r < n′ → (r ≡ row → ⊥) → E .on r l ≡ false)
-        → Holds (E .width) m fit s₀ s (Below n) → t ≡ applied one s → Holds (E .width) m fit s₀ t (Below n′)
+    pub rows-more : (n n′ : ℕ) (s t : List ℕ) → n ≤ row → row + c ≤ n′ → InRun run row c
+        → ((r l : ℕ) → row ≤ r → r < row + c → l < m → cond (on r l) (new (take 1024 s₀) r l (old r l) % span (E .width)) (old r l) ≡ laneAfter E s₀ r l)
+        → ((r l : ℕ) → n ≤ r → r < n′ → among row c r ≡ false → E .on r l ≡ false)
+        → Holds (E .width) m fit s₀ s (Below n) → t ≡ applied run s → Holds (E .width) m fit s₀ t (Below n′)
     rows-more n n′ s t h h′ only here off held et =
         subst (λ (u : List ℕ). Holds (E .width) m fit s₀ u (Below n′)) (sym et)
-        (holds-same (E .width) m fit s₀ (applied one s) _ (Below n′) same (holds-applied one m fit s₀ s (Below n) held))
+        (holds-same (E .width) m fit s₀ (applied run s) _ (Below n′) same (holds-applied run m fit s₀ s (Below n) held))
       where
         X : List ℕ
         X = take 1024 s₀
 
-        same : (r l : ℕ) → r < 64 → l < m → cond (e r l) (new X r l (Below n r l) % span (E .width)) (Below n r l) ≡ Below n′ r l
-        same r l hr hl =
-            two (eqb r row) (cond (e r l) (new X r l (Below n r l) % span (E .width)) (Below n r l) ≡ Below n′ r l)
-            (λ this.
-            let is : r ≡ row = eqb-true r row this in
-            let was : Below n r l ≡ old r l = pick-false _ _ (le-ltb r n (omega arith)) in
-            ap (λ (z : ℕ). cond (e r l) (new X r l z % span (E .width)) z) was
-            ∙ ap (λ (x : ℕ). cond (e x l) (new X x l (old x l) % span (E .width)) (old x l)) is
-            ∙ here l hl
-            ∙ ap (λ (x : ℕ). laneAfter E s₀ x l) (sym is)
-            ∙ sym (pick-true _ _ (lt-ltb r n′ (omega arith))))
-            (λ other.
-            let not : r ≡ row → ⊥ = eqb-false r row other in
+        -- outside the run
+        other : (r l : ℕ) → among row c r ≡ false → cond (on r l) (new X r l (Below n r l) % span (E .width)) (Below n r l) ≡ Below n′ r l
+        other r l not =
             pick-false _ _ (only r l not)
             ∙ ⊎-elim
             (λ low. pick-true _ _ (lt-ltb r n low) ∙ sym (pick-true _ _ (lt-ltb r n′ (omega arith))))
@@ -82,7 +73,22 @@ module _ (E : Effect) (m : ℕ) (fit : m * E .width ≡ 64) (s₀ : List ℕ) wh
             (λ in-between. sym (pick-true _ _ (lt-ltb r n′ in-between) ∙ pick-false _ _ (off r l high in-between not)))
             (λ past. sym (pick-false _ _ (le-ltb r n′ past)))
             (lt-or-le r n′))
-            (lt-or-le r n))
+            (lt-or-le r n)
+
+        same : (r l : ℕ) → r < 64 → l < m → cond (on r l) (new X r l (Below n r l) % span (E .width)) (Below n r l) ≡ Below n′ r l
+        same r l hr hl =
+            ⊎-elim
+            (λ before. other r l (among-before row c r before))
+            (λ within.
+            ⊎-elim
+            (λ inside.
+            let was : Below n r l ≡ old r l = pick-false _ _ (le-ltb r n (omega arith)) in
+            ap (λ (z : ℕ). cond (on r l) (new X r l z % span (E .width)) z) was
+            ∙ here r l within inside hl
+            ∙ sym (pick-true _ _ (lt-ltb r n′ (omega arith))))
+            (λ after. other r l (among-after row c r after))
+            (lt-or-le r (row + c)))
+            (lt-or-le r row)
 
   pub rows-end : (n : ℕ) (s : List ℕ) → 64 ≤ n → length s₀ ≡ 5120 → Bytes s₀ → Bytes s → Holds (E .width) m fit s₀ s (Below n) → s ≡ applied E s₀
   rows-end n s h size b₀ b held = holds-end E m fit s₀ s (Below n) size b₀ b (λ r l hr hl. pick-true _ _ (lt-ltb r n (omega arith))) held

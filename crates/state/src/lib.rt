@@ -1,14 +1,14 @@
 // The lent state: loads from X and Y, and rows of Z. Every function takes every argument.
 ghost use mathlib.Core.Path.{_≡_};
 ghost use mathlib.Core.Bool.{cond};
-ghost use Prim.Native.Nat.{_+_, _%_, _≤_};
+ghost use Prim.Native.Nat.{_+_, _*_, _%_, _≤_};
 ghost use lib.Dec.{eqb};
 ghost use lib.ListN.{length};
 ghost use lib.Seq.{sets};
 ghost use Rattle.number.specs.Bytes.{span, byteAt, number, bytesOf, table};
 ghost use Rattle.isa.specs.State.{stateLength, xBase, yBase, loaded};
 ghost use Rattle.isa.specs.Effect.{applied};
-ghost use Rattle.state.specs.Rows.{laneSum, rowSum};
+ghost use Rattle.state.specs.Rows.{laneSum, runSum};
 
 // ---- loads
 
@@ -52,7 +52,7 @@ fn sum_lane16(state: &mut [u8], at: usize, v: u16, on: bool, keep: bool)
 // A row's lanes: where old Z is kept, a value is added to each; where it is not, the enabled ones receive their values.
 pub fn sum_row16(state: &mut [u8], row: usize, values: &[u16; 32], on: &[bool; 32], keep: bool)
     ensures { λ _. ⌜ now (state .exit) ≡ cond (eqb (length (now (state .entry))) stateLength)
-        (applied (rowSum 2 row (now (values .entry)) (now (on .entry)) keep) (now (state .entry))) (now (state .entry)) ⌝ }
+        (applied (runSum 2 row 1 (now (values .entry)) (now (on .entry)) keep) (now (state .entry))) (now (state .entry)) ⌝ }
 {
     if state.len() != 5120 {
         return;
@@ -65,7 +65,7 @@ pub fn sum_row16(state: &mut [u8], row: usize, values: &[u16; 32], on: &[bool; 3
     }
 }
 
-// ---- rows of 32-bit lanes
+// ---- pairs of rows of 32-bit lanes, which the compiler does several at a time
 
 fn summed32(z: u32, v: u32, on: bool, keep: bool) -> u32
     ensures { λ r. ⌜ r ≡ laneSum 4 z v on keep ⌝ }
@@ -83,17 +83,19 @@ fn sum_lane32(state: &mut [u8], at: usize, v: u32, on: bool, keep: bool)
     number::put32(state, at, summed32(z, v, on, keep));
 }
 
-pub fn sum_row32(state: &mut [u8], row: usize, values: &[u32; 16], on: &[bool; 16], keep: bool)
+// Rows 2 j and 2 j + 1.
+pub fn sum_pair32(state: &mut [u8], j: usize, values: &[u32; 32], on: &[bool; 32], keep: bool)
     ensures { λ _. ⌜ now (state .exit) ≡ cond (eqb (length (now (state .entry))) stateLength)
-        (applied (rowSum 4 row (now (values .entry)) (now (on .entry)) keep) (now (state .entry))) (now (state .entry)) ⌝ }
+        (applied (runSum 4 (j * 2) 2 (now (values .entry)) (now (on .entry)) keep) (now (state .entry))) (now (state .entry)) ⌝ }
 {
     if state.len() != 5120 {
         return;
     }
-    if 64 <= row {
+    if 32 <= j {
         return;
     }
-    for i in 0..16 {
+    let row = j * 2;
+    for i in 0..32 {
         sum_lane32(state, 1024 + (row * 64 + i * 4), values[i], on[i], keep);
     }
 }

@@ -1,6 +1,6 @@
 use borrow.Author.Tests.{not-true, not-false, eq-eqb}
 use Rattle.mac16.specs.Products.{rowTerms}
-use Rattle.state.specs.Rows.{rowSum}
+use Rattle.state.specs.Rows.{runSum}
 use Rattle.isa.specs.Effect.{applied}
 use lib.Dec.{eqb}
 use mathlib.Core.List.{List}
@@ -57,7 +57,7 @@ returns-2 : tie.Need-returns-2
 returns-2 c =
     c .before .before .row16 .ensures
     ∙ pick-true _ _ (eq-eqb (length (c .before .before .before .before .before .before .before .before .before .args .state .now)) 5120 (c .before .before .before .before .before .before .before .before .before .pre .0))
-    ∙ ap (λ (y : ℤ). applied (rowSum 2 (2 * c .before .before .before .before .before .before .before .before .before .args .j + c .before .before .before .before .before .before .before .before .before .args .p) (rowTerms 2 32 (c .before .before .before .before .before .before .before .before .before .args .s % 32) (c .before .before .before .before .before .before .before .before .before .args .xs .now) (replicate 32 y)) (c .before .before .before .before .before .before .before .before .before .args .on .now) (c .before .before .before .before .before .before .before .before .before .args .keep)) (c .before .before .before .before .before .before .before .before .before .args .state .now)) (toZ-ofZ {w = w16} (sfits-of (c .before .before .before .before .before .y .given)))
+    ∙ ap (λ (y : ℤ). applied (runSum 2 (2 * c .before .before .before .before .before .before .before .before .before .args .j + c .before .before .before .before .before .before .before .before .before .args .p) 1 (rowTerms 2 32 (c .before .before .before .before .before .before .before .before .before .args .s % 32) (c .before .before .before .before .before .before .before .before .before .args .xs .now) (replicate 32 y)) (c .before .before .before .before .before .before .before .before .before .args .on .now) (c .before .before .before .before .before .before .before .before .before .args .keep)) (c .before .before .before .before .before .before .before .before .before .args .state .now)) (toZ-ofZ {w = w16} (sfits-of (c .before .before .before .before .before .y .given)))
     ∙ sym (pick-true _ _ (not-false (getD (c .before .before .before .before .before .before .before .before .before .args .yon .now) (c .before .before .before .before .before .before .before .before .before .args .j) false) (c .before .before .before .before .before .before .if1 .left)))
 
 pub matrix16-row-spec : {M : Type 1} → statement M

@@ -18,10 +18,10 @@ use Rattle.mac16.proofs.terms32.Lts as lts
 use Rattle.mac16.proofs.term32.Reads as term32-reads
 
 abbrev Inv-loop : tie.InvT-loop
-Inv-loop xs ys s out₀ i₀ out i = (i ≤ 16) × (length out ≡ 16) × Filled 0 (λ k. term 4 (s % 32) (getD xs k (pos 0)) (getD ys k (pos 0))) out i
+Inv-loop xs ys s out₀ i₀ out i = (i ≤ 32) × (length out ≡ 32) × Filled 0 (λ k. term 4 (s % 32) (getD xs k (pos 0)) (getD ys k (pos 0))) out i
 
 abbrev μ-loop : tie.MeasureT-loop
-μ-loop xs ys s out₀ i₀ out i = 16 - i
+μ-loop xs ys s out₀ i₀ out i = 32 - i
 
 -- src/lib.rt:81:5
 loop-holds : tie.Need-loop-holds Inv-loop μ-loop
@@ -70,7 +70,7 @@ loop-again c = (omega arith, simp length-set (omega arith), fill-more 0 (λ k. t
 -- src/lib.rt:77:1
 returns : tie.Need-returns Inv-loop μ-loop
 unfolding rowTerms
-returns c = fill-all 0 (λ k. term 4 (c .before .before .args .s % 32) (getD (c .before .before .args .xs .now) k (pos 0)) (getD (c .before .before .args .ys .now) k (pos 0))) 16 (c .before .loop .i) (c .before .loop .out) (c .before .loop .inv .1) (c .loop-test .left) (c .before .loop .inv .2)
+returns c = fill-all 0 (λ k. term 4 (c .before .before .args .s % 32) (getD (c .before .before .args .xs .now) k (pos 0)) (getD (c .before .before .args .ys .now) k (pos 0))) 32 (c .before .loop .i) (c .before .loop .out) (c .before .loop .inv .1) (c .loop-test .left) (c .before .loop .inv .2)
 
 pub terms32-spec : {M : Type 1} → statement M
 terms32-spec =

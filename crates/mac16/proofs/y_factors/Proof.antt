@@ -4,40 +4,40 @@ use Rattle.mac16.proofs.y_factors.Statement.{statement}
 use Rattle.mac16.proofs.y_factors.Tie as tie
 use Rattle.mac16.proofs.y_factors.Reads as reads
 use Rattle.mac16.proofs.y_factors.Lts as lts
-use Rattle.mac16.proofs.factors.Reads as factors-reads
+use Rattle.mac16.proofs.side_of.Reads as side-of-reads
 use Rattle.operand.proofs.field.Reads as field-reads
 use Rattle.operand.proofs.flag.Reads as flag-reads
 use Rattle.state.proofs.load.Reads as load-reads
 
--- src/lib.rt:135:42
+-- src/lib.rt:153:42
 field-requires : tie.Need-field-requires
 field-requires c κs = search needs
 
--- src/lib.rt:135:17
+-- src/lib.rt:153:17
 load-requires : tie.Need-load-requires
 load-requires c κs = search needs
 
--- src/lib.rt:137:13
-slice-aggregate-factors : tie.Need-slice-aggregate-factors
-slice-aggregate-factors c = search needs
+-- src/lib.rt:154:13
+slice-aggregate-side-of : tie.Need-slice-aggregate-side-of
+slice-aggregate-side-of c = search needs
 
--- src/lib.rt:137:21
+-- src/lib.rt:154:21
 flag-requires : tie.Need-flag-requires
 flag-requires c κs = search needs
 
--- src/lib.rt:137:44
+-- src/lib.rt:154:44
 flag-requires-2 : tie.Need-flag-requires-2
 flag-requires-2 c κs = search needs
 
--- src/lib.rt:137:5
-factors-requires : tie.Need-factors-requires
-factors-requires c κs = search needs
+-- src/lib.rt:154:5
+side-of-requires : tie.Need-side-of-requires
+side-of-requires c κs = search needs
 
--- src/lib.rt:132:1
+-- src/lib.rt:150:1
 returns : tie.Need-returns
-returns c =
-    y-factors-are (c .before .before .before .before .before .before .before .before .args .op) (c .before .before .before .before .before .before .before .before .args .state .now) (c .factors .result) (c .before .before .before .before .before .load .result) (c .before .before .before .before .before .before .field .result) (c .before .before .before .flag .result) (c .before .before .flag2 .result)
-    (c .factors .ensures) (c .before .before .before .before .before .load .ensures) (c .before .before .before .before .before .before .field .ensures) (c .before .before .before .flag .ensures) (c .before .before .flag2 .ensures)
+returns c = 
+    y-factors-are (c .before .before .before .before .before .before .before .args .op) (c .before .before .before .before .before .before .before .args .state .now) (c .side-of .result) (c .before .before .before .before .load .result) (c .before .before .before .before .before .field .result) (c .before .before .flag .result) (c .before .flag2 .result)
+    (c .side-of .ensures) (c .before .before .before .before .load .ensures) (c .before .before .before .before .before .field .ensures) (c .before .before .flag .ensures) (c .before .flag2 .ensures)
 
 pub y-factors-spec : {M : Type 1} → statement M
 y-factors-spec =
@@ -45,8 +45,8 @@ y-factors-spec =
     (tie.spec
     field-requires
     load-requires
-    slice-aggregate-factors
+    slice-aggregate-side-of
     flag-requires
     flag-requires-2
-    factors-requires
+    side-of-requires
     returns)

@@ -1,11 +1,11 @@
 use borrow.Author.Needs.{needs}
-use Rattle.state.proofs.RowLoop.{Upto, row-start, row-reads, row-more, row-end, row-outside, in-row, summed}
+use Rattle.state.proofs.RunLoop.{Upto, run-none, run-reads, run-more, run-all, run-outside, in-run, summed}
 use Rattle.state.proofs.Holds.{Holds, Bytes}
-use Rattle.state.specs.Rows.{rowSum}
+use Rattle.state.specs.Rows.{runSum}
 use Rattle.number.proofs.Tests.{pick-true, pick-false}
 use borrow.Author.Tests.{eq-eqb, ne-eqb}
 use lib.ListN.{length}
-use Prim.Native.Nat.{_-_, _≤_}
+use Prim.Native.Nat.{_*_, _-_, _≤_}
 use native.Mathlib.Omega.{arith}
 use mathlib.Core.Path.{_≡_, refl, sym, ap, _∙_}
 use Rattle.state.proofs.sum_row16.Statement.{statement}
@@ -15,7 +15,7 @@ use Rattle.state.proofs.sum_row16.Lts as lts
 use Rattle.state.proofs.sum_lane16.Reads as sum-lane16-reads
 
 abbrev Inv-loop : tie.InvT-loop
-Inv-loop state₀ row values on keep i₀ state i = (i ≤ 32) × Holds 2 32 refl state₀ state (Upto (rowSum 2 row values on keep) 32 refl row state₀ i) × Bytes state
+Inv-loop state₀ row values on keep i₀ state i = (i ≤ 32) × Holds 2 32 refl state₀ state (Upto (runSum 2 row 1 values on keep) 32 refl row 1 state₀ i) × Bytes state
 
 abbrev μ-loop : tie.MeasureT-loop
 μ-loop state₀ row values on keep i₀ state i = 32 - i
@@ -26,11 +26,11 @@ returns c = sym (pick-false _ _ (ne-eqb (length (c .before .before .args .state 
 
 -- src/lib.rt:61:9
 returns-2 : tie.Need-returns-2 Inv-loop μ-loop
-returns-2 c = row-outside (rowSum 2 (c .before .before .before .args .row) (c .before .before .before .args .values .now) (c .before .before .before .args .on .now) (c .before .before .before .args .keep)) 32 refl (c .before .before .before .args .row) (c .before .before .before .args .state .now) (in-row 2 (c .before .before .before .args .row) (c .before .before .before .args .values .now) (c .before .before .before .args .on .now) (c .before .before .before .args .keep)) (c .if2 .taken) ∙ sym (pick-true _ _ (eq-eqb (length (c .before .before .before .args .state .now)) 5120 (c .before .if1 .left)))
+returns-2 c = run-outside (runSum 2 (c .before .before .before .args .row) 1 (c .before .before .before .args .values .now) (c .before .before .before .args .on .now) (c .before .before .before .args .keep)) 32 refl (c .before .before .before .args .row) 1 (c .before .before .before .args .state .now) (in-run 2 (c .before .before .before .args .row) 1 (c .before .before .before .args .values .now) (c .before .before .before .args .on .now) (c .before .before .before .args .keep)) (omega arith) ∙ sym (pick-true _ _ (eq-eqb (length (c .before .before .before .args .state .now)) 5120 (c .before .if1 .left)))
 
 -- src/lib.rt:63:5
 loop-holds : tie.Need-loop-holds Inv-loop μ-loop
-loop-holds c = (omega arith, row-start (rowSum 2 (c .before .before .before .args .row) (c .before .before .before .args .values .now) (c .before .before .before .args .on .now) (c .before .before .before .args .keep)) 32 refl (c .before .before .before .args .row) (c .before .before .before .args .state .now) (c .before .if1 .left), λ p. c .before .before .slice-known .given p .fits)
+loop-holds c = (omega arith, run-none (runSum 2 (c .before .before .before .args .row) 1 (c .before .before .before .args .values .now) (c .before .before .before .args .on .now) (c .before .before .before .args .keep)) 32 refl (c .before .before .before .args .row) 1 (c .before .before .before .args .state .now) (c .before .if1 .left), λ p. c .before .before .slice-known .given p .fits)
 
 -- src/lib.rt:64:35
 mul-sum-lane16 : tie.Need-mul-sum-lane16 Inv-loop μ-loop
@@ -74,14 +74,13 @@ loop-less c = search needs
 
 -- src/lib.rt:63:5
 loop-again : tie.Need-loop-again Inv-loop μ-loop
-loop-again c = (
-  omega arith,
-  row-more (rowSum 2 (c .before .before .before .before .before .before .before .before .before .before .before .args .row) (c .before .before .before .before .before .before .before .before .before .before .before .args .values .now) (c .before .before .before .before .before .before .before .before .before .before .before .args .on .now) (c .before .before .before .before .before .before .before .before .before .before .before .args .keep)) 32 refl (c .before .before .before .before .before .before .before .before .before .before .before .args .row) (c .before .before .before .before .before .before .before .before .before .before .before .args .state .now) (c .before .before .before .before .before .before .before .loop .i) _ (c .before .before .before .before .before .before .before .loop .state) (c .before .before .sum-lane16 .last .0) (omega arith) (omega arith) (c .before .before .before .before .before .before .before .loop .inv .1)
-      (c .before .before .sum-lane16 .ensures)
-      (summed 2 (c .before .before .before .before .before .before .before .before .before .before .before .args .row) (c .before .before .before .before .before .before .before .before .before .before .before .args .values .now) (c .before .before .before .before .before .before .before .before .before .before .before .args .on .now) (c .before .before .before .before .before .before .before .before .before .before .before .args .keep) (c .before .before .before .before .before .before .before .before .before .before .before .args .state .now) (λ p. c .before .before .before .before .before .before .before .before .before .before .slice-known .given p .fits) (c .before .before .before .before .before .before .before .loop .i) _
-      (row-reads (rowSum 2 (c .before .before .before .before .before .before .before .before .before .before .before .args .row) (c .before .before .before .before .before .before .before .before .before .before .before .args .values .now) (c .before .before .before .before .before .before .before .before .before .before .before .args .on .now) (c .before .before .before .before .before .before .before .before .before .before .before .args .keep)) 32 refl (c .before .before .before .before .before .before .before .before .before .before .before .args .row) (c .before .before .before .before .before .before .before .before .before .before .before .args .state .now) (c .before .before .before .before .before .before .before .loop .i) (c .before .before .before .before .before .before .before .loop .state) (omega arith) (omega arith) (c .before .before .before .before .before .before .before .loop .inv .1))),
-  λ p. c .slice-known2 .given p .fits,
-)
+loop-again c = 
+    (omega arith,
+    run-more (runSum 2 (c .before .before .before .before .before .before .before .before .before .before .before .args .row) 1 (c .before .before .before .before .before .before .before .before .before .before .before .args .values .now) (c .before .before .before .before .before .before .before .before .before .before .before .args .on .now) (c .before .before .before .before .before .before .before .before .before .before .before .args .keep)) 32 refl (c .before .before .before .before .before .before .before .before .before .before .before .args .row) 1 (c .before .before .before .before .before .before .before .before .before .before .before .args .state .now) (omega arith) (c .before .before .before .before .before .before .before .loop .i) (omega arith) _ (c .before .before .before .before .before .before .before .loop .state) (c .before .before .sum-lane16 .last .0) (c .before .before .before .before .before .before .before .loop .inv .1)
+    (c .before .before .sum-lane16 .ensures)
+    (summed 2 (c .before .before .before .before .before .before .before .before .before .before .before .args .row) 1 (c .before .before .before .before .before .before .before .before .before .before .before .args .values .now) (c .before .before .before .before .before .before .before .before .before .before .before .args .on .now) (c .before .before .before .before .before .before .before .before .before .before .before .args .keep) 32 refl (c .before .before .before .before .before .before .before .before .before .before .before .args .state .now) (λ p. c .before .before .before .before .before .before .before .before .before .before .slice-known .given p .fits) (c .before .before .before .before .before .before .before .loop .i) _ (omega arith)
+    (run-reads (runSum 2 (c .before .before .before .before .before .before .before .before .before .before .before .args .row) 1 (c .before .before .before .before .before .before .before .before .before .before .before .args .values .now) (c .before .before .before .before .before .before .before .before .before .before .before .args .on .now) (c .before .before .before .before .before .before .before .before .before .before .before .args .keep)) 32 refl (c .before .before .before .before .before .before .before .before .before .before .before .args .row) 1 (c .before .before .before .before .before .before .before .before .before .before .before .args .state .now) (omega arith) (c .before .before .before .before .before .before .before .loop .i) (omega arith) (c .before .before .before .before .before .before .before .loop .state) (c .before .before .before .before .before .before .before .loop .inv .1))),
+    λ p. c .slice-known2 .given p .fits)
 
 -- src/lib.rt:53:1
 same-length : tie.Need-same-length Inv-loop μ-loop
@@ -89,8 +88,8 @@ same-length c = c .before .loop .inv .1 .size ∙ sym (c .before .before .before
 
 -- src/lib.rt:53:1
 returns-3 : tie.Need-returns-3 Inv-loop μ-loop
-returns-3 c =
-    row-end (rowSum 2 (c .before .before .before .before .before .args .row) (c .before .before .before .before .before .args .values .now) (c .before .before .before .before .before .args .on .now) (c .before .before .before .before .before .args .keep)) 32 refl (c .before .before .before .before .before .args .row) (c .before .before .before .before .before .args .state .now) (in-row 2 (c .before .before .before .before .before .args .row) (c .before .before .before .before .before .args .values .now) (c .before .before .before .before .before .args .on .now) (c .before .before .before .before .before .args .keep)) (c .before .loop .i) (c .before .loop .state) (c .loop-test .left) (c .before .before .before .if1 .left) (λ p. c .before .before .before .before .slice-known .given p .fits) (c .before .loop .inv .2) (c .before .loop .inv .1)
+returns-3 c = 
+    run-all (runSum 2 (c .before .before .before .before .before .args .row) 1 (c .before .before .before .before .before .args .values .now) (c .before .before .before .before .before .args .on .now) (c .before .before .before .before .before .args .keep)) 32 refl (c .before .before .before .before .before .args .row) 1 (c .before .before .before .before .before .args .state .now) (in-run 2 (c .before .before .before .before .before .args .row) 1 (c .before .before .before .before .before .args .values .now) (c .before .before .before .before .before .args .on .now) (c .before .before .before .before .before .args .keep)) (c .before .loop .i) (c .before .loop .state) (c .loop-test .left) (c .before .before .before .if1 .left) (λ p. c .before .before .before .before .slice-known .given p .fits) (c .before .loop .inv .2) (c .before .loop .inv .1)
     ∙ sym (pick-true _ _ (eq-eqb (length (c .before .before .before .before .before .args .state .now)) 5120 (c .before .before .before .if1 .left)))
 
 pub sum-row16-spec : {M : Type 1} → statement M
