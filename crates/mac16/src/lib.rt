@@ -18,28 +18,28 @@ ghost use Rattle.mac16.specs.Products.{side, masked, otherThanX, term, r
 // ---- factors
 
 // The 32 lanes of 64 bytes, as i16 and as the i8 in the low byte of each.
-fn lanes16(bytes: &[u8]) -> [i16; 32]
+fn lanes16(bytes: &[u8; 64]) -> [i16; 32]
     ensures { λ r. ⌜ r ≡ table (Mac16.lane false (byteAt (now (bytes .entry)))) 0 32 ⌝ }
 {
     let mut out = [0i16; 32];
     for i in 0..32 {
-        out[i] = number::signed16(number::get16(bytes, 2 * i));
+        out[i] = number::signed16(number::pair(bytes[2 * i], bytes[2 * i + 1]));
     }
     out
 }
 
-fn lanes8(bytes: &[u8]) -> [i16; 32]
+fn lanes8(bytes: &[u8; 64]) -> [i16; 32]
     ensures { λ r. ⌜ r ≡ table (Mac16.lane true (byteAt (now (bytes .entry)))) 0 32 ⌝ }
 {
     let mut out = [0i16; 32];
     for i in 0..32 {
-        out[i] = number::signed8(number::get8(bytes, 2 * i));
+        out[i] = number::signed8(bytes[2 * i]);
     }
     out
 }
 
 // The 32 numbers of a side.
-fn side_of(bytes: &[u8], byte: bool, skip: bool, other: i16) -> [i16; 32]
+fn side_of(bytes: &[u8; 64], byte: bool, skip: bool, other: i16) -> [i16; 32]
     ensures { λ r. ⌜ r ≡ table (side byte skip other (now (bytes .entry))) 0 32 ⌝ }
 {
     if skip {
@@ -143,7 +143,12 @@ fn x_factors(state: &[u8], op: u64, on: &[bool; 32]) -> [i16; 32]
     ensures { λ r. ⌜ r ≡ xFactors op (now (state .entry)) (now (on .entry)) ⌝ }
 {
     let bytes = state::load(state, false, operand::field(op, 10, 18));
-    let xs = side_of(&bytes, operand::flag(op, 61), operand::flag(op, 29), other_than_x(op));
+    let xs = side_of(
+        &bytes,
+        operand::flag(op, 61),
+        operand::flag(op, 29),
+        other_than_x(op),
+    );
     masked_by(on, &xs)
 }
 
@@ -172,7 +177,15 @@ fn row16(
     state::sum_row16(state, row, &terms, on, keep);
 }
 
-fn pair32(state: &mut [u8], j: usize, xs: &[i16; 32], ys: &[i16; 32], on: &[bool; 32], s: u32, keep: bool)
+fn pair32(
+    state: &mut [u8],
+    j: usize,
+    xs: &[i16; 32],
+    ys: &[i16; 32],
+    on: &[bool; 32],
+    s: u32,
+    keep: bool,
+)
     ensures { λ _. ⌜ now (state .exit) ≡ cond (eqb (length (now (state .entry))) stateLength)
         (applied (runSum 4 (j * 2) 2 (rowTerms 4 32 (s % 32) (now (xs .entry)) (now (ys .entry))) (now (on .entry)) keep) (now (state .entry))) (now (state .entry)) ⌝ }
 {
@@ -245,7 +258,16 @@ fn split_mask(on: &[bool; 32]) -> [bool; 32]
 }
 
 // Rows 2 j and 2 j + 1 of matrix 32, where Y lane j is enabled; xs and on are split.
-fn matrix32_pair(state: &mut [u8], j: usize, xs: &[i16; 32], on: &[bool; 32], ys: &[i16; 32], yon: &[bool; 32], s: u32, keep: bool)
+fn matrix32_pair(
+    state: &mut [u8],
+    j: usize,
+    xs: &[i16; 32],
+    on: &[bool; 32],
+    ys: &[i16; 32],
+    yon: &[bool; 32],
+    s: u32,
+    keep: bool,
+)
     requires { ⌜ (length (now state) ≡ stateLength) × (j < 32) ⌝ }
     ensures { λ _. ⌜ now (state .exit) ≡ cond (getD (now (yon .entry)) j false)
         (applied (runSum 4 (j * 2) 2 (rowTerms 4 32 (s % 32) (now (xs .entry)) (replicate 32 (getD (now (ys .entry)) j (pos 0)))) (now (on .entry)) keep) (now (state .entry)))
@@ -259,7 +281,15 @@ fn matrix32_pair(state: &mut [u8], j: usize, xs: &[i16; 32], on: &[bool; 32], ys
     pair32(state, j, xs, &same, on, s, keep);
 }
 
-fn matrix32(state: &mut [u8], xs: &[i16; 32], on: &[bool; 32], ys: &[i16; 32], yon: &[bool; 32], s: u32, keep: bool)
+fn matrix32(
+    state: &mut [u8],
+    xs: &[i16; 32],
+    on: &[bool; 32],
+    ys: &[i16; 32],
+    yon: &[bool; 32],
+    s: u32,
+    keep: bool,
+)
     requires { ⌜ length (now state) ≡ stateLength ⌝ }
     ensures { λ _. ⌜ now (state .exit) ≡ applied (products Mac16.matrix32 0 (now (xs .entry)) (now (on .entry)) (now (ys .entry)) (now (yon .entry)) (s % 32) keep) (now (state .entry)) ⌝ }
 {

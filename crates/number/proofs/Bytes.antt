@@ -1,6 +1,6 @@
 -- A table by its entries; a number by its bytes, at any width.
 -- Assumes nothing.
-use mathlib.Core.Path.{_≡_, refl, sym, ap, _∙_}
+use mathlib.Core.Path.{_≡_, refl, sym, ap, ap₂, _∙_}
 use mathlib.Core.List.{List, [], _∷_}
 use Prim.Native.Nat.{ℕ, zero, suc, _+_, _-_, _*_, _/_, _%_, _^_, _<_, suc-le-suc}
 use native.Mathlib.Nat.{add-zero, add-suc, suc-add, not-suc-le-zero, le-of-suc-le-suc, mod-one, div-one, mul-suc, mul-comm, div-div-eq-div-mul, zero-lt-suc}
@@ -21,6 +21,15 @@ module _ {A : Type 0} (f : ℕ → A) where
   getD-table d i zero k h = absurd (not-suc-le-zero h)
   getD-table d i (suc n) zero h = ap f (sym (add-zero i))
   getD-table d i (suc n) (suc k) h = getD-table d (suc i) n k (le-of-suc-le-suc h) ∙ ap f (omega arith)
+
+-- tables of equal entries
+tables-from : {A : Type 0} (f g : ℕ → A) (i n : ℕ) → ((j : ℕ) → j < i + n → f j ≡ g j) → table f i n ≡ table g i n
+unfolding table
+tables-from f g i zero h = refl
+tables-from f g i (suc n) h = ap₂ _∷_ (h i (omega arith)) (tables-from f g (suc i) n (λ j l. h j (omega arith)))
+
+pub table-same : {A : Type 0} (f g : ℕ → A) (n : ℕ) → ((k : ℕ) → k < n → f k ≡ g k) → table f 0 n ≡ table g 0 n
+table-same f g n h = tables-from f g 0 n (λ k l. h k (omega arith))
 
 -- one more byte
 pub span-suc : (b : ℕ) → span (suc b) ≡ span b * 256

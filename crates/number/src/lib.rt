@@ -23,6 +23,13 @@ fn wide16(n: u16) -> u32
     n as u32
 }
 
+// Two bytes as a number.
+pub fn pair(low: u8, high: u8) -> u16
+    ensures { λ r. ⌜ r ≡ low + 256 * high ⌝ }
+{
+    wide8(low) + 256 * wide8(high)
+}
+
 pub fn get8(s: &[u8], at: usize) -> u8
     ensures { λ r. ⌜ r ≡ byteAt (now (s .entry)) at ⌝ }
 {
@@ -38,7 +45,7 @@ pub fn get16(s: &[u8], at: usize) -> u16
     if s.len() <= at {
         return 0;
     }
-    wide8(s[at]) + 256 * wide8(get8(s, at + 1))
+    pair(s[at], get8(s, at + 1))
 }
 
 pub fn get32(s: &[u8], at: usize) -> u32

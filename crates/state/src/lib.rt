@@ -1,7 +1,7 @@
 // The lent state: loads from X and Y, and rows of Z. Every function takes every argument.
 ghost use mathlib.Core.Path.{_≡_};
 ghost use mathlib.Core.Bool.{cond};
-ghost use Prim.Native.Nat.{_+_, _*_, _%_, _≤_};
+ghost use Prim.Native.Nat.{_+_, _*_, _%_, _≤_, _<_};
 ghost use lib.Dec.{eqb};
 ghost use lib.ListN.{length};
 ghost use lib.Seq.{sets};
@@ -18,17 +18,43 @@ fn base_of(y: bool) -> usize
     if y { 512 } else { 0 }
 }
 
+// 64 bytes that lie side by side.
+fn straight(state: &[u8], at: usize) -> [u8; 64]
+    requires { ⌜ at + 64 ≤ length (now state) ⌝ }
+    ensures { λ r. ⌜ r ≡ table (λ i. byteAt (now (state .entry)) (at + i)) 0 64 ⌝ }
+{
+    let mut out = [0u8; 64];
+    for i in 0..64 {
+        out[i] = state[at + i];
+    }
+    out
+}
+
+// 64 bytes round a ring.
+fn ring(state: &[u8], base: usize, from: usize) -> [u8; 64]
+    requires { ⌜ (base ≤ 512) × (from < 512) ⌝ }
+    ensures { λ r. ⌜ r ≡ table (loaded (now (state .entry)) base from) 0 64 ⌝ }
+{
+    let mut out = [0u8; 64];
+    for i in 0..64 {
+        out[i] = number::get8(state, base + (from + i) % 512);
+    }
+    out
+}
+
 // The 64 bytes of Y, or of X, from an offset on, round the ring.
 pub fn load(state: &[u8], y: bool, offset: u64) -> [u8; 64]
     ensures { λ r. ⌜ r ≡ table (loaded (now (state .entry)) (cond y yBase xBase) offset) 0 64 ⌝ }
 {
     let base = base_of(y);
     let from = (offset % 512) as usize;
-    let mut out = [0u8; 64];
-    for i in 0..64 {
-        out[i] = number::get8(state, base + (from + i) % 512);
+    if state.len() < 1024 {
+        return ring(state, base, from);
     }
-    out
+    if 448 < from {
+        return ring(state, base, from);
+    }
+    straight(state, base + from)
 }
 
 // ---- rows of 16-bit lanes

@@ -1,17 +1,14 @@
 use borrow.Author.Needs.{needs}
 use Rattle.isa.specs.Mac16 as Mac16
-use Rattle.number.proofs.Slice.{one-byte}
+use Rattle.number.proofs.Slice.{one-byte, two-bytes}
 use Rattle.number.specs.Integers.{signed}
 use Rattle.number.specs.Bytes.{byteAt}
 use Rattle.number.proofs.Fill.{Filled, fill-more, fill-all}
 use native.Mathlib.Nat.{not-suc-le-zero}
-use mathlib.Core.List.{List}
 use mathlib.Core.Bool.{Bool, true, false, cond}
 use lib.IntN.{ℤ, pos}
 use lib.ListN.{length, getD, length-set, replicate}
 use Prim.Native.Nat.{ℕ, _+_, _*_, _-_, _/_, _%_, _≤_}
-use mir.Val.{toZ, ofZ}
-use mir.Syntax.{w16, w64}
 use mir.Facts.{toZ-ofZ}
 use borrow.Author.Needs.{sfits-of}
 use native.Mathlib.Omega.{arith}
@@ -20,7 +17,7 @@ use Rattle.mac16.proofs.lanes16.Statement.{statement}
 use Rattle.mac16.proofs.lanes16.Tie as tie
 use Rattle.mac16.proofs.lanes16.Reads as reads
 use Rattle.mac16.proofs.lanes16.Lts as lts
-use Rattle.number.proofs.get16.Reads as get16-reads
+use Rattle.number.proofs.pair.Reads as pair-reads
 use Rattle.number.proofs.signed16.Reads as signed16-reads
 
 abbrev Inv-loop : tie.InvT-loop
@@ -33,13 +30,29 @@ abbrev μ-loop : tie.MeasureT-loop
 loop-holds : tie.Need-loop-holds Inv-loop μ-loop
 loop-holds c = (omega arith, refl, λ j h. absurd (not-suc-le-zero h))
 
--- src/lib.rt:26:56
-mul-get16 : tie.Need-mul-get16 Inv-loop μ-loop
-mul-get16 c = search needs
+-- src/lib.rt:26:54
+mul-pair : tie.Need-mul-pair Inv-loop μ-loop
+mul-pair c = search needs
+
+-- src/lib.rt:26:48
+element-copy-out-pair : tie.Need-element-copy-out-pair Inv-loop μ-loop
+element-copy-out-pair c = search needs
+
+-- src/lib.rt:26:68
+mul-pair-2 : tie.Need-mul-pair-2 Inv-loop μ-loop
+mul-pair-2 c = search needs
+
+-- src/lib.rt:26:68
+add-pair : tie.Need-add-pair Inv-loop μ-loop
+add-pair c = search needs
+
+-- src/lib.rt:26:62
+element-copy-out-pair-2 : tie.Need-element-copy-out-pair-2 Inv-loop μ-loop
+element-copy-out-pair-2 c = search needs
 
 -- src/lib.rt:26:35
-get16-requires : tie.Need-get16-requires Inv-loop μ-loop
-get16-requires c κs = search needs
+pair-requires : tie.Need-pair-requires Inv-loop μ-loop
+pair-requires c κs = search needs
 
 -- src/lib.rt:26:18
 signed16-requires : tie.Need-signed16-requires Inv-loop μ-loop
@@ -63,11 +76,11 @@ loop-less c = search needs
 
 -- src/lib.rt:25:5
 loop-again : tie.Need-loop-again Inv-loop μ-loop
-loop-again c = (omega arith, simp length-set (omega arith), fill-more (pos 0) (Mac16.lane false (byteAt (c .before .before .before .before .before .args .bytes .now))) (c .before .before .before .loop .i) _ (c .before .before .before .loop .out) (omega arith) (toZ-ofZ (sfits-of (c .signed16 .ok)) ∙ c .signed16 .ensures ∙ ap (signed 2) (c .before .get16 .ensures)) (c .before .before .before .loop .inv .2))
+loop-again c = (omega arith, simp length-set (omega arith), fill-more (pos 0) (Mac16.lane false (byteAt (c .before .before .before .before .before .before .args .bytes .now))) (c .before .before .before .before .before .loop .i) _ (c .before .before .before .before .before .loop .out) (omega arith) (toZ-ofZ (sfits-of (c .signed16 .ok)) ∙ c .signed16 .ensures ∙ ap (signed 2) (c .before .pair .ensures ∙ two-bytes (byteAt (c .before .before .before .before .before .before .args .bytes .now)) (2 * c .before .before .before .before .before .loop .i) _ _ refl refl)) (c .before .before .before .before .before .loop .inv .2))
 
 -- src/lib.rt:21:1
 returns : tie.Need-returns Inv-loop μ-loop
-returns c = fill-all (pos 0) (Mac16.lane false (byteAt (c .before .before .before .args .bytes .now))) 32 (c .before .loop .i) (c .before .loop .out) (c .before .loop .inv .1) (c .loop-test .left) (c .before .loop .inv .2)
+returns c = fill-all (pos 0) (Mac16.lane false (byteAt (c .before .before .args .bytes .now))) 32 (c .before .loop .i) (c .before .loop .out) (c .before .loop .inv .1) (c .loop-test .left) (c .before .loop .inv .2)
 
 pub lanes16-spec : {M : Type 1} → statement M
 lanes16-spec =
@@ -76,8 +89,12 @@ lanes16-spec =
     Inv-loop
     μ-loop
     loop-holds
-    mul-get16
-    get16-requires
+    mul-pair
+    element-copy-out-pair
+    mul-pair-2
+    add-pair
+    element-copy-out-pair-2
+    pair-requires
     signed16-requires
     mul-out
     array-set-from-out

@@ -1,17 +1,14 @@
 use borrow.Author.Needs.{needs}
 use Rattle.isa.specs.Mac16 as Mac16
-use Rattle.number.proofs.Slice.{one-byte}
+use Rattle.number.proofs.Slice.{one-byte, two-bytes}
 use Rattle.number.specs.Integers.{signed}
 use Rattle.number.specs.Bytes.{byteAt}
 use Rattle.number.proofs.Fill.{Filled, fill-more, fill-all}
 use native.Mathlib.Nat.{not-suc-le-zero}
-use mathlib.Core.List.{List}
 use mathlib.Core.Bool.{Bool, true, false, cond}
 use lib.IntN.{ℤ, pos}
 use lib.ListN.{length, getD, length-set, replicate}
 use Prim.Native.Nat.{ℕ, _+_, _*_, _-_, _/_, _%_, _≤_}
-use mir.Val.{toZ, ofZ}
-use mir.Syntax.{w16, w64}
 use mir.Facts.{toZ-ofZ}
 use borrow.Author.Needs.{sfits-of}
 use native.Mathlib.Omega.{arith}
@@ -20,7 +17,6 @@ use Rattle.mac16.proofs.lanes8.Statement.{statement}
 use Rattle.mac16.proofs.lanes8.Tie as tie
 use Rattle.mac16.proofs.lanes8.Reads as reads
 use Rattle.mac16.proofs.lanes8.Lts as lts
-use Rattle.number.proofs.get8.Reads as get8-reads
 use Rattle.number.proofs.signed8.Reads as signed8-reads
 
 abbrev Inv-loop : tie.InvT-loop
@@ -33,13 +29,13 @@ abbrev μ-loop : tie.MeasureT-loop
 loop-holds : tie.Need-loop-holds Inv-loop μ-loop
 loop-holds c = (omega arith, refl, λ j h. absurd (not-suc-le-zero h))
 
--- src/lib.rt:36:54
-mul-get8 : tie.Need-mul-get8 Inv-loop μ-loop
-mul-get8 c = search needs
+-- src/lib.rt:36:40
+mul-signed8 : tie.Need-mul-signed8 Inv-loop μ-loop
+mul-signed8 c = search needs
 
 -- src/lib.rt:36:34
-get8-requires : tie.Need-get8-requires Inv-loop μ-loop
-get8-requires c κs = search needs
+element-copy-out-signed8 : tie.Need-element-copy-out-signed8 Inv-loop μ-loop
+element-copy-out-signed8 c = search needs
 
 -- src/lib.rt:36:18
 signed8-requires : tie.Need-signed8-requires Inv-loop μ-loop
@@ -63,11 +59,11 @@ loop-less c = search needs
 
 -- src/lib.rt:35:5
 loop-again : tie.Need-loop-again Inv-loop μ-loop
-loop-again c = (omega arith, simp length-set (omega arith), fill-more (pos 0) (Mac16.lane true (byteAt (c .before .before .before .before .before .args .bytes .now))) (c .before .before .before .loop .i) _ (c .before .before .before .loop .out) (omega arith) (toZ-ofZ (sfits-of (c .signed8 .ok)) ∙ c .signed8 .ensures ∙ ap (signed 1) (c .before .get8 .ensures ∙ one-byte (byteAt (c .before .before .before .before .before .args .bytes .now)) (2 * c .before .before .before .loop .i))) (c .before .before .before .loop .inv .2))
+loop-again c = (omega arith, simp length-set (omega arith), fill-more (pos 0) (Mac16.lane true (byteAt (c .before .before .before .before .args .bytes .now))) (c .before .before .before .loop .i) _ (c .before .before .before .loop .out) (omega arith) (toZ-ofZ (sfits-of (c .signed8 .ok)) ∙ c .signed8 .ensures ∙ ap (signed 1) (one-byte (byteAt (c .before .before .before .before .args .bytes .now)) (2 * c .before .before .before .loop .i))) (c .before .before .before .loop .inv .2))
 
 -- src/lib.rt:31:1
 returns : tie.Need-returns Inv-loop μ-loop
-returns c = fill-all (pos 0) (Mac16.lane true (byteAt (c .before .before .before .args .bytes .now))) 32 (c .before .loop .i) (c .before .loop .out) (c .before .loop .inv .1) (c .loop-test .left) (c .before .loop .inv .2)
+returns c = fill-all (pos 0) (Mac16.lane true (byteAt (c .before .before .args .bytes .now))) 32 (c .before .loop .i) (c .before .loop .out) (c .before .loop .inv .1) (c .loop-test .left) (c .before .loop .inv .2)
 
 pub lanes8-spec : {M : Type 1} → statement M
 lanes8-spec =
@@ -76,8 +72,8 @@ lanes8-spec =
     Inv-loop
     μ-loop
     loop-holds
-    mul-get8
-    get8-requires
+    mul-signed8
+    element-copy-out-signed8
     signed8-requires
     mul-out
     array-set-from-out

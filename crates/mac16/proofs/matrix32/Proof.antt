@@ -51,11 +51,12 @@ loop-less c = search needs
 
 -- src/lib.rt:268:5
 loop-again : tie.Need-loop-again Inv-loop μ-loop
-loop-again c = 
-    (omega arith,
-    matrix32-turn 0 (c .before .before .before .before .before .before .before .before .before .before .before .args .xs .now) (c .before .before .before .before .before .before .before .before .before .before .before .args .on .now) (c .before .before .before .before .before .before .before .before .before .before .before .args .ys .now) (c .before .before .before .before .before .before .before .before .before .before .before .args .yon .now) (c .before .before .before .before .before .before .before .before .before .before .before .args .s % 32) (c .before .before .before .before .before .before .before .before .before .before .before .args .keep) (c .before .before .before .before .before .before .before .before .before .before .before .args .state .now) (c .before .before .before .before .before .before .before .loop .j) (c .before .before .before .before .before .before .before .before .before .split-lanes .result) (c .before .before .before .before .before .before .before .before .split-mask .result) (c .before .before .before .before .before .before .before .loop .state) (c .before .before .matrix32-pair .last .0) (omega arith) (c .before .before .before .before .before .before .before .before .before .split-lanes .ensures) (c .before .before .before .before .before .before .before .before .split-mask .ensures)
-    (c .before .before .before .before .before .before .before .loop .inv .1) (c .before .before .matrix32-pair .ensures),
-    λ p. c .slice-known2 .given p .fits)
+loop-again c = (
+  omega arith,
+  matrix32-turn 0 (c .before .before .before .before .before .before .before .before .before .before .before .args .xs .now) (c .before .before .before .before .before .before .before .before .before .before .before .args .on .now) (c .before .before .before .before .before .before .before .before .before .before .before .args .ys .now) (c .before .before .before .before .before .before .before .before .before .before .before .args .yon .now) (c .before .before .before .before .before .before .before .before .before .before .before .args .s % 32) (c .before .before .before .before .before .before .before .before .before .before .before .args .keep) (c .before .before .before .before .before .before .before .before .before .before .before .args .state .now) (c .before .before .before .before .before .before .before .loop .j) (c .before .before .before .before .before .before .before .before .before .split-lanes .result) (c .before .before .before .before .before .before .before .before .split-mask .result) (c .before .before .before .before .before .before .before .loop .state) (c .before .before .matrix32-pair .last .0) (omega arith) (c .before .before .before .before .before .before .before .before .before .split-lanes .ensures) (c .before .before .before .before .before .before .before .before .split-mask .ensures)
+      (c .before .before .before .before .before .before .before .loop .inv .1) (c .before .before .matrix32-pair .ensures),
+  λ p. c .slice-known2 .given p .fits,
+)
 
 -- src/lib.rt:262:1
 same-length : tie.Need-same-length Inv-loop μ-loop

@@ -47,7 +47,7 @@ same-length c = search needs
 
 -- src/lib.rt:248:1
 returns-2 : tie.Need-returns-2
-returns-2 c = 
+returns-2 c =
     c .before .before .pair32 .ensures
     ∙ pick-true _ _ (eq-eqb (length (c .before .before .before .before .before .before .before .before .before .args .state .now)) 5120 (c .before .before .before .before .before .before .before .before .before .pre .0))
     ∙ ap (λ (y : ℤ). applied (runSum 4 (c .before .before .before .before .before .before .before .before .before .args .j * 2) 2 (rowTerms 4 32 (c .before .before .before .before .before .before .before .before .before .args .s % 32) (c .before .before .before .before .before .before .before .before .before .args .xs .now) (replicate 32 y)) (c .before .before .before .before .before .before .before .before .before .args .on .now) (c .before .before .before .before .before .before .before .before .before .args .keep)) (c .before .before .before .before .before .before .before .before .before .args .state .now)) (toZ-ofZ {w = w16} (sfits-of (c .before .before .before .before .before .y .given)))

@@ -30,7 +30,7 @@ same-length c = search needs
 
 -- src/lib.rt:175:1
 returns : tie.Need-returns
-returns c = 
+returns c =
     c .before .before .sum-pair32 .ensures
     ∙ ap (λ (terms : List ℕ). cond (eqb (length (c .before .before .before .before .before .before .before .args .state .now)) 5120) (applied (runSum 4 (c .before .before .before .before .before .before .before .args .j * 2) 2 terms (c .before .before .before .before .before .before .before .args .on .now) (c .before .before .before .before .before .before .before .args .keep)) (c .before .before .before .before .before .before .before .args .state .now)) (c .before .before .before .before .before .before .before .args .state .now)) (c .before .before .before .before .before .terms32 .ensures)
 

@@ -1,6 +1,6 @@
-use Rattle.mac16.proofs.Sides.{x-factors-are}
-use mir.Facts.{toZ-ofZ}
 use borrow.Author.Needs.{sfits-of}
+use mir.Facts.{toZ-ofZ}
+use Rattle.mac16.proofs.Sides.{x-factors-are}
 use borrow.Author.Needs.{needs}
 use Rattle.mac16.proofs.x_factors.Statement.{statement}
 use Rattle.mac16.proofs.x_factors.Tie as tie
@@ -20,10 +20,6 @@ field-requires c κs = search needs
 -- src/lib.rt:145:17
 load-requires : tie.Need-load-requires
 load-requires c κs = search needs
-
--- src/lib.rt:146:22
-slice-aggregate-side-of : tie.Need-slice-aggregate-side-of
-slice-aggregate-side-of c = search needs
 
 -- src/lib.rt:146:30
 flag-requires : tie.Need-flag-requires
@@ -47,8 +43,7 @@ masked-by-requires c κs = search needs
 
 -- src/lib.rt:142:1
 returns : tie.Need-returns
-returns c = 
-    x-factors-are (c .before .before .before .before .before .before .before .before .before .before .args .op) (c .before .before .before .before .before .before .before .before .before .before .args .state .now) (c .masked-by .result) (c .before .before .before .before .before .before .before .load .result) (c .before .before .before .before .before .before .before .before .field .result) (c .before .before .before .before .before .flag .result) (c .before .before .before .before .flag2 .result) (c .before .before .before .before .before .before .before .before .before .before .args .on .now) (c .before .before .before .other-than-x .result) (c .before .before .side-of .result)
+returns c = x-factors-are (c .before .before .before .before .before .before .before .before .before .before .args .op) (c .before .before .before .before .before .before .before .before .before .before .args .state .now) (c .masked-by .result) (c .before .before .before .before .before .before .before .load .result) (c .before .before .before .before .before .before .before .before .field .result) (c .before .before .before .before .before .flag .result) (c .before .before .before .before .flag2 .result) (c .before .before .before .before .before .before .before .before .before .before .args .on .now) (c .before .before .before .other-than-x .result) (c .before .before .side-of .result)
     (c .masked-by .ensures) (rw (toZ-ofZ (sfits-of (c .before .before .before .other-than-x .ok))) at (c .before .before .side-of .ensures)) (c .before .before .before .before .before .before .before .load .ensures) (c .before .before .before .before .before .before .before .before .field .ensures) (c .before .before .before .before .before .flag .ensures) (c .before .before .before .before .flag2 .ensures) (c .before .before .before .other-than-x .ensures)
 
 pub x-factors-spec : {M : Type 1} → statement M
@@ -57,7 +52,6 @@ x-factors-spec =
     (tie.spec
     field-requires
     load-requires
-    slice-aggregate-side-of
     flag-requires
     flag-requires-2
     other-than-x-requires

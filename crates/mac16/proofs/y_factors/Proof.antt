@@ -17,10 +17,6 @@ field-requires c κs = search needs
 load-requires : tie.Need-load-requires
 load-requires c κs = search needs
 
--- src/lib.rt:154:13
-slice-aggregate-side-of : tie.Need-slice-aggregate-side-of
-slice-aggregate-side-of c = search needs
-
 -- src/lib.rt:154:21
 flag-requires : tie.Need-flag-requires
 flag-requires c κs = search needs
@@ -35,18 +31,10 @@ side-of-requires c κs = search needs
 
 -- src/lib.rt:150:1
 returns : tie.Need-returns
-returns c = 
-    y-factors-are (c .before .before .before .before .before .before .before .args .op) (c .before .before .before .before .before .before .before .args .state .now) (c .side-of .result) (c .before .before .before .before .load .result) (c .before .before .before .before .before .field .result) (c .before .before .flag .result) (c .before .flag2 .result)
+returns c = y-factors-are (c .before .before .before .before .before .before .before .args .op) (c .before .before .before .before .before .before .before .args .state .now) (c .side-of .result) (c .before .before .before .before .load .result) (c .before .before .before .before .before .field .result) (c .before .before .flag .result) (c .before .flag2 .result)
     (c .side-of .ensures) (c .before .before .before .before .load .ensures) (c .before .before .before .before .before .field .ensures) (c .before .before .flag .ensures) (c .before .flag2 .ensures)
 
 pub y-factors-spec : {M : Type 1} → statement M
 y-factors-spec =
     tie.close
-    (tie.spec
-    field-requires
-    load-requires
-    slice-aggregate-side-of
-    flag-requires
-    flag-requires-2
-    side-of-requires
-    returns)
+    (tie.spec field-requires load-requires flag-requires flag-requires-2 side-of-requires returns)

@@ -78,13 +78,14 @@ loop-less c = search needs
 
 -- src/lib.rt:98:5
 loop-again : tie.Need-loop-again Inv-loop μ-loop
-loop-again c = 
-    (omega arith,
-    run-more (runSum 4 (c .before .before .before .before .before .before .before .before .before .before .before .args .j * 2) 2 (c .before .before .before .before .before .before .before .before .before .before .before .args .values .now) (c .before .before .before .before .before .before .before .before .before .before .before .args .on .now) (c .before .before .before .before .before .before .before .before .before .before .before .args .keep)) 16 refl (c .before .before .before .before .before .before .before .before .before .before .before .args .j * 2) 2 (c .before .before .before .before .before .before .before .before .before .before .before .args .state .now) (omega arith) (c .before .before .before .before .before .before .before .loop .i) (omega arith) _ (c .before .before .before .before .before .before .before .loop .state) (c .before .before .sum-lane32 .last .0) (c .before .before .before .before .before .before .before .loop .inv .1)
-    (c .before .before .sum-lane32 .ensures)
-    (summed 4 (c .before .before .before .before .before .before .before .before .before .before .before .args .j * 2) 2 (c .before .before .before .before .before .before .before .before .before .before .before .args .values .now) (c .before .before .before .before .before .before .before .before .before .before .before .args .on .now) (c .before .before .before .before .before .before .before .before .before .before .before .args .keep) 16 refl (c .before .before .before .before .before .before .before .before .before .before .before .args .state .now) (λ p. c .before .before .before .before .before .before .before .before .before .before .slice-known .given p .fits) (c .before .before .before .before .before .before .before .loop .i) _ (omega arith)
-    (run-reads (runSum 4 (c .before .before .before .before .before .before .before .before .before .before .before .args .j * 2) 2 (c .before .before .before .before .before .before .before .before .before .before .before .args .values .now) (c .before .before .before .before .before .before .before .before .before .before .before .args .on .now) (c .before .before .before .before .before .before .before .before .before .before .before .args .keep)) 16 refl (c .before .before .before .before .before .before .before .before .before .before .before .args .j * 2) 2 (c .before .before .before .before .before .before .before .before .before .before .before .args .state .now) (omega arith) (c .before .before .before .before .before .before .before .loop .i) (omega arith) (c .before .before .before .before .before .before .before .loop .state) (c .before .before .before .before .before .before .before .loop .inv .1))),
-    λ p. c .slice-known2 .given p .fits)
+loop-again c = (
+  omega arith,
+  run-more (runSum 4 (c .before .before .before .before .before .before .before .before .before .before .before .args .j * 2) 2 (c .before .before .before .before .before .before .before .before .before .before .before .args .values .now) (c .before .before .before .before .before .before .before .before .before .before .before .args .on .now) (c .before .before .before .before .before .before .before .before .before .before .before .args .keep)) 16 refl (c .before .before .before .before .before .before .before .before .before .before .before .args .j * 2) 2 (c .before .before .before .before .before .before .before .before .before .before .before .args .state .now) (omega arith) (c .before .before .before .before .before .before .before .loop .i) (omega arith) _ (c .before .before .before .before .before .before .before .loop .state) (c .before .before .sum-lane32 .last .0) (c .before .before .before .before .before .before .before .loop .inv .1)
+      (c .before .before .sum-lane32 .ensures)
+      (summed 4 (c .before .before .before .before .before .before .before .before .before .before .before .args .j * 2) 2 (c .before .before .before .before .before .before .before .before .before .before .before .args .values .now) (c .before .before .before .before .before .before .before .before .before .before .before .args .on .now) (c .before .before .before .before .before .before .before .before .before .before .before .args .keep) 16 refl (c .before .before .before .before .before .before .before .before .before .before .before .args .state .now) (λ p. c .before .before .before .before .before .before .before .before .before .before .slice-known .given p .fits) (c .before .before .before .before .before .before .before .loop .i) _ (omega arith)
+      (run-reads (runSum 4 (c .before .before .before .before .before .before .before .before .before .before .before .args .j * 2) 2 (c .before .before .before .before .before .before .before .before .before .before .before .args .values .now) (c .before .before .before .before .before .before .before .before .before .before .before .args .on .now) (c .before .before .before .before .before .before .before .before .before .before .before .args .keep)) 16 refl (c .before .before .before .before .before .before .before .before .before .before .before .args .j * 2) 2 (c .before .before .before .before .before .before .before .before .before .before .before .args .state .now) (omega arith) (c .before .before .before .before .before .before .before .loop .i) (omega arith) (c .before .before .before .before .before .before .before .loop .state) (c .before .before .before .before .before .before .before .loop .inv .1))),
+  λ p. c .slice-known2 .given p .fits,
+)
 
 -- src/lib.rt:87:1
 same-length : tie.Need-same-length Inv-loop μ-loop
@@ -92,7 +93,7 @@ same-length c = c .before .loop .inv .1 .size ∙ sym (c .before .before .before
 
 -- src/lib.rt:87:1
 returns-3 : tie.Need-returns-3 Inv-loop μ-loop
-returns-3 c = 
+returns-3 c =
     run-all (runSum 4 (c .before .before .before .before .before .args .j * 2) 2 (c .before .before .before .before .before .args .values .now) (c .before .before .before .before .before .args .on .now) (c .before .before .before .before .before .args .keep)) 16 refl (c .before .before .before .before .before .args .j * 2) 2 (c .before .before .before .before .before .args .state .now) (in-run 4 (c .before .before .before .before .before .args .j * 2) 2 (c .before .before .before .before .before .args .values .now) (c .before .before .before .before .before .args .on .now) (c .before .before .before .before .before .args .keep)) (c .before .loop .i) (c .before .loop .state) (c .loop-test .left) (c .before .before .before .if1 .left) (λ p. c .before .before .before .before .slice-known .given p .fits) (c .before .loop .inv .2) (c .before .loop .inv .1)
     ∙ sym (pick-true _ _ (eq-eqb (length (c .before .before .before .before .before .args .state .now)) 5120 (c .before .before .before .if1 .left)))
 
