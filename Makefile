@@ -1,6 +1,7 @@
 # make run   the numbers at the edges, checked against the meaning
 # make test  the gate: every crate proved from nothing, every must-fail edit refused
-.PHONY: run test
+# make bench the proved unit against a C version, in one run (needs a C compiler; no part of the gate)
+.PHONY: run test bench
 
 run:
 	rt check isa
@@ -9,3 +10,13 @@ run:
 test:
 	rt fmt --check
 	rt ci
+
+B = target/bench
+
+bench:
+	rt staticlib amx
+	mkdir -p $B
+	$(CC) -O3 -DNAME=mac16_baseline -c bench/mac16.c -o $B/baseline.o
+	$(CC) -O3 -march=native -DNAME=mac16_native -c bench/mac16.c -o $B/native.o
+	$(CC) -O2 bench/main.c $B/baseline.o $B/native.o target/staticlib/libamx.a -o $B/bench
+	$B/bench

@@ -69,15 +69,16 @@ below-product r q h l = mul-le-mul h l
 pub vector-count : (op : ℕ) (on : List Bool) (r : ℕ) → on ≡ xMask op → r ≡ count (λ i. getD on i false) 32 → r ≡ lanesOn (Mac16.effect vector op)
 vector-count op on r eo er = count-mask (Mac16.xEnabled op) on 32 r eo er ∙ sym (count-vector op)
 
-module _ (op : ℕ) (on yon : List Bool) (r q : ℕ) (eo : on ≡ xMask op) (en : yon ≡ yMask op)
-    (er : r ≡ count (λ i. getD on i false) 32) (eq : q ≡ count (λ i. getD yon i false) 32) where
-  both : r * q ≡ count (Mac16.xEnabled op) 32 * count (Mac16.yEnabled op) 32
-  both = λ t. count-mask (Mac16.xEnabled op) on 32 r eo er t * count-mask (Mac16.yEnabled op) yon 32 q en eq t
+-- as the code counts, by both masks
+module _ (op : ℕ) (on yon : List Bool) (r : ℕ) (eo : on ≡ xMask op) (en : yon ≡ yMask op)
+    (er : r ≡ count (λ i. getD on i false) 32 * count (λ i. getD yon i false) 32) where
+  both : r ≡ count (Mac16.xEnabled op) 32 * count (Mac16.yEnabled op) 32
+  both = er ∙ (λ t. count-mask (Mac16.xEnabled op) on 32 _ eo refl t * count-mask (Mac16.yEnabled op) yon 32 _ en refl t)
 
-  pub matrix16-count : r * q ≡ lanesOn (Mac16.effect matrix16 op)
+  pub matrix16-count : r ≡ lanesOn (Mac16.effect matrix16 op)
   matrix16-count = both ∙ sym (count-matrix16 op)
 
-  pub matrix32-count : r * q ≡ lanesOn (Mac16.effect matrix32 op)
+  pub matrix32-count : r ≡ lanesOn (Mac16.effect matrix32 op)
   matrix32-count = both ∙ sym (count-matrix32 op)
 
 -- ---- the step, by the form

@@ -302,6 +302,13 @@ fn matrix32(
 
 // ---- the step, on a state of 5,120 bytes: the count of enabled lanes
 
+// A matrix has a lane for each enabled X lane with each enabled Y lane.
+fn matrix_lanes(on: &[bool; 32], yon: &[bool; 32]) -> u64
+    ensures { λ r. ⌜ r ≡ count (λ i. getD (now (on .entry)) i false) 32 * count (λ i. getD (now (yon .entry)) i false) 32 ⌝ }
+{
+    operand::count32(on) * operand::count32(yon)
+}
+
 fn vector_step(state: &mut [u8], op: u64) -> u64
     requires { ⌜ length (now state) ≡ stateLength ⌝ }
     ensures { λ r. ⌜ (now (state .exit) ≡ applied (productsOf Mac16.vector op (now (state .entry))) (now (state .entry))) × (r ≡ lanesOn (Mac16.effect Mac16.vector op)) ⌝ }
@@ -331,7 +338,7 @@ fn matrix16_step(state: &mut [u8], op: u64) -> u64
         shift(op),
         keeps_z(op),
     );
-    operand::count32(&on) * operand::count32(&yon)
+    matrix_lanes(&on, &yon)
 }
 
 fn matrix32_step(state: &mut [u8], op: u64) -> u64
@@ -343,7 +350,7 @@ fn matrix32_step(state: &mut [u8], op: u64) -> u64
     let ys = y_factors(state, op);
     let yon = y_mask(op);
     matrix32(state, &xs, &on, &ys, &yon, shift(op), keeps_z(op));
-    operand::count32(&on) * operand::count32(&yon)
+    matrix_lanes(&on, &yon)
 }
 
 // mac16 on a state of 5,120 bytes; a state of another length stays as it is.

@@ -1,7 +1,6 @@
-use mathlib.Core.Path.{refl}
-use Rattle.mac16.proofs.Whole.{matrix16-is, matrix16-count, below-product}
 use Prim.Native.Nat.{_%_}
-use native.Mathlib.Omega.{arith}
+use Rattle.mac16.proofs.Whole.{matrix16-is, matrix16-count}
+use mathlib.Core.Path.{refl}
 use borrow.Author.Needs.{needs}
 use Rattle.mac16.proofs.matrix16_step.Statement.{statement}
 use Rattle.mac16.proofs.matrix16_step.Tie as tie
@@ -9,69 +8,61 @@ use Rattle.mac16.proofs.matrix16_step.Reads as reads
 use Rattle.mac16.proofs.matrix16_step.Lts as lts
 use Rattle.mac16.proofs.keeps_z.Reads as keeps-z-reads
 use Rattle.mac16.proofs.matrix16.Reads as matrix16-reads
+use Rattle.mac16.proofs.matrix_lanes.Reads as matrix-lanes-reads
 use Rattle.mac16.proofs.shift.Reads as shift-reads
 use Rattle.mac16.proofs.x_factors.Reads as x-factors-reads
 use Rattle.mac16.proofs.x_mask.Reads as x-mask-reads
 use Rattle.mac16.proofs.y_factors.Reads as y-factors-reads
 use Rattle.mac16.proofs.y_mask.Reads as y-mask-reads
 use Rattle.mac16.proofs.z_row.Reads as z-row-reads
-use Rattle.operand.proofs.count32.Reads as count32-reads
 
--- src/lib.rt:268:14
+-- src/lib.rt:327:14
 x-mask-requires : tie.Need-x-mask-requires
 x-mask-requires c κs = search needs
 
--- src/lib.rt:269:14
+-- src/lib.rt:328:14
 x-factors-requires : tie.Need-x-factors-requires
 x-factors-requires c κs = search needs
 
--- src/lib.rt:270:14
+-- src/lib.rt:329:14
 y-factors-requires : tie.Need-y-factors-requires
 y-factors-requires c κs = search needs
 
--- src/lib.rt:271:15
+-- src/lib.rt:330:15
 y-mask-requires : tie.Need-y-mask-requires
 y-mask-requires c κs = search needs
 
--- src/lib.rt:272:21
+-- src/lib.rt:333:9
 z-row-requires : tie.Need-z-row-requires
 z-row-requires c κs = search needs
 
--- src/lib.rt:272:57
+-- src/lib.rt:338:9
 shift-requires : tie.Need-shift-requires
 shift-requires c κs = search needs
 
--- src/lib.rt:272:68
+-- src/lib.rt:339:9
 keeps-z-requires : tie.Need-keeps-z-requires
 keeps-z-requires c κs = search needs
 
--- src/lib.rt:272:5
+-- src/lib.rt:331:5
 matrix16-requires : tie.Need-matrix16-requires
 matrix16-requires c κs = search needs
 
--- src/lib.rt:273:5
-count32-requires : tie.Need-count32-requires
-count32-requires c κs = search needs
+-- src/lib.rt:341:5
+matrix-lanes-requires : tie.Need-matrix-lanes-requires
+matrix-lanes-requires c κs = search needs
 
--- src/lib.rt:273:29
-count32-requires-2 : tie.Need-count32-requires-2
-count32-requires-2 c κs = search needs
-
--- src/lib.rt:273:5
-mul-result : tie.Need-mul-result
-mul-result c = record { fits = omega (arith, below-product (c .before .before .count32 .result) (c .count322 .result) (c .before .before .count32 .ensures .1) (c .count322 .ensures .1)) }
-
--- src/lib.rt:264:1
+-- src/lib.rt:323:1
 same-length : tie.Need-same-length
 same-length c = search needs
 
--- src/lib.rt:264:1
+-- src/lib.rt:323:1
 returns : tie.Need-returns
 returns c = (
-  matrix16-is (c .before .before .before .before .before .before .before .before .before .before .before .before .before .before .before .before .before .before .before .before .before .before .before .args .op) (c .before .before .before .before .before .before .before .before .before .before .before .before .before .before .before .before .before .before .before .before .before .before .before .args .state .now) (c .before .before .before .before .before .before .matrix16 .last .0) (c .before .before .before .before .before .before .before .before .before .before .before .before .before .before .before .before .before .before .before .before .before .x-mask .result) (c .before .before .before .before .before .before .before .before .before .before .before .before .before .before .before .before .before .before .x-factors .result) (c .before .before .before .before .before .before .before .before .before .before .before .before .before .before .before .before .y-factors .result) (c .before .before .before .before .before .before .before .before .shift .result) (c .before .before .before .before .before .before .before .keeps-z .result)
-      (c .before .before .before .before .before .before .before .before .before .before .before .before .before .before .before .before .before .before .before .before .before .x-mask .ensures) (c .before .before .before .before .before .before .before .before .before .before .before .before .before .before .before .before .before .before .x-factors .ensures) (c .before .before .before .before .before .before .before .before .before .before .before .before .before .before .before .before .y-factors .ensures) (c .before .before .before .before .before .before .before .before .shift .ensures .0) (c .before .before .before .before .before .before .before .before .shift .ensures .1) (c .before .before .before .before .before .before .before .keeps-z .ensures)
-      (c .before .before .before .before .before .before .before .before .before .before .before .before .before .before .before .y-mask .result) (c .before .before .before .before .before .before .before .before .before .before .before .before .before .before .before .y-mask .ensures) (c .before .before .before .before .before .before .before .before .before .before .before .before .before .z-row .result % 2) (c .before .before .before .before .before .before .before .before .before .before .before .before .before .z-row .result) (c .before .before .before .before .before .before .before .before .before .before .before .before .before .z-row .ensures .0) refl (c .before .before .before .before .before .before .matrix16 .ensures),
-  matrix16-count (c .before .before .before .before .before .before .before .before .before .before .before .before .before .before .before .before .before .before .before .before .before .before .before .args .op) (c .before .before .before .before .before .before .before .before .before .before .before .before .before .before .before .before .before .before .before .before .before .x-mask .result) (c .before .before .before .before .before .before .before .before .before .before .before .before .before .before .before .y-mask .result) (c .before .before .count32 .result) (c .count322 .result) (c .before .before .before .before .before .before .before .before .before .before .before .before .before .before .before .before .before .before .before .before .before .x-mask .ensures) (c .before .before .before .before .before .before .before .before .before .before .before .before .before .before .before .y-mask .ensures) (c .before .before .count32 .ensures .0) (c .count322 .ensures .0),
+  matrix16-is (c .before .before .before .before .before .before .before .before .before .before .before .before .before .before .before .before .before .before .before .before .before .before .args .op) (c .before .before .before .before .before .before .before .before .before .before .before .before .before .before .before .before .before .before .before .before .before .before .args .state .now) (c .before .before .before .before .before .matrix16 .last .0) (c .before .before .before .before .before .before .before .before .before .before .before .before .before .before .before .before .before .before .before .before .x-mask .result) (c .before .before .before .before .before .before .before .before .before .before .before .before .before .before .before .before .before .x-factors .result) (c .before .before .before .before .before .before .before .before .before .before .before .before .before .before .before .y-factors .result) (c .before .before .before .before .before .before .before .shift .result) (c .before .before .before .before .before .before .keeps-z .result)
+      (c .before .before .before .before .before .before .before .before .before .before .before .before .before .before .before .before .before .before .before .before .x-mask .ensures) (c .before .before .before .before .before .before .before .before .before .before .before .before .before .before .before .before .before .x-factors .ensures) (c .before .before .before .before .before .before .before .before .before .before .before .before .before .before .before .y-factors .ensures) (c .before .before .before .before .before .before .before .shift .ensures .0) (c .before .before .before .before .before .before .before .shift .ensures .1) (c .before .before .before .before .before .before .keeps-z .ensures)
+      (c .before .before .before .before .before .before .before .before .before .before .before .before .before .before .y-mask .result) (c .before .before .before .before .before .before .before .before .before .before .before .before .before .before .y-mask .ensures) (c .before .before .before .before .before .before .before .before .before .before .before .before .z-row .result % 2) (c .before .before .before .before .before .before .before .before .before .before .before .before .z-row .result) (c .before .before .before .before .before .before .before .before .before .before .before .before .z-row .ensures .0) refl (c .before .before .before .before .before .matrix16 .ensures),
+  matrix16-count (c .before .before .before .before .before .before .before .before .before .before .before .before .before .before .before .before .before .before .before .before .before .before .args .op) (c .before .before .before .before .before .before .before .before .before .before .before .before .before .before .before .before .before .before .before .before .x-mask .result) (c .before .before .before .before .before .before .before .before .before .before .before .before .before .before .y-mask .result) (c .matrix-lanes .result) (c .before .before .before .before .before .before .before .before .before .before .before .before .before .before .before .before .before .before .before .before .x-mask .ensures) (c .before .before .before .before .before .before .before .before .before .before .before .before .before .before .y-mask .ensures) (c .matrix-lanes .ensures),
 )
 
 pub matrix16-step-spec : {M : Type 1} → statement M
@@ -86,8 +77,6 @@ matrix16-step-spec =
     shift-requires
     keeps-z-requires
     matrix16-requires
-    count32-requires
-    count32-requires-2
-    mul-result
+    matrix-lanes-requires
     same-length
     returns)

@@ -1,5 +1,4 @@
-use Rattle.mac16.proofs.Whole.{matrix32-is, matrix32-count, below-product}
-use native.Mathlib.Omega.{arith}
+use Rattle.mac16.proofs.Whole.{matrix32-is, matrix32-count}
 use borrow.Author.Needs.{needs}
 use Rattle.mac16.proofs.matrix32_step.Statement.{statement}
 use Rattle.mac16.proofs.matrix32_step.Tie as tie
@@ -7,64 +6,56 @@ use Rattle.mac16.proofs.matrix32_step.Reads as reads
 use Rattle.mac16.proofs.matrix32_step.Lts as lts
 use Rattle.mac16.proofs.keeps_z.Reads as keeps-z-reads
 use Rattle.mac16.proofs.matrix32.Reads as matrix32-reads
+use Rattle.mac16.proofs.matrix_lanes.Reads as matrix-lanes-reads
 use Rattle.mac16.proofs.shift.Reads as shift-reads
 use Rattle.mac16.proofs.x_factors.Reads as x-factors-reads
 use Rattle.mac16.proofs.x_mask.Reads as x-mask-reads
 use Rattle.mac16.proofs.y_factors.Reads as y-factors-reads
 use Rattle.mac16.proofs.y_mask.Reads as y-mask-reads
-use Rattle.operand.proofs.count32.Reads as count32-reads
 
--- src/lib.rt:280:14
+-- src/lib.rt:348:14
 x-mask-requires : tie.Need-x-mask-requires
 x-mask-requires c κs = search needs
 
--- src/lib.rt:281:14
+-- src/lib.rt:349:14
 x-factors-requires : tie.Need-x-factors-requires
 x-factors-requires c κs = search needs
 
--- src/lib.rt:282:14
+-- src/lib.rt:350:14
 y-factors-requires : tie.Need-y-factors-requires
 y-factors-requires c κs = search needs
 
--- src/lib.rt:283:15
+-- src/lib.rt:351:15
 y-mask-requires : tie.Need-y-mask-requires
 y-mask-requires c κs = search needs
 
--- src/lib.rt:284:42
+-- src/lib.rt:352:42
 shift-requires : tie.Need-shift-requires
 shift-requires c κs = search needs
 
--- src/lib.rt:284:53
+-- src/lib.rt:352:53
 keeps-z-requires : tie.Need-keeps-z-requires
 keeps-z-requires c κs = search needs
 
--- src/lib.rt:284:5
+-- src/lib.rt:352:5
 matrix32-requires : tie.Need-matrix32-requires
 matrix32-requires c κs = search needs
 
--- src/lib.rt:285:5
-count32-requires : tie.Need-count32-requires
-count32-requires c κs = search needs
+-- src/lib.rt:353:5
+matrix-lanes-requires : tie.Need-matrix-lanes-requires
+matrix-lanes-requires c κs = search needs
 
--- src/lib.rt:285:29
-count32-requires-2 : tie.Need-count32-requires-2
-count32-requires-2 c κs = search needs
-
--- src/lib.rt:285:5
-mul-result : tie.Need-mul-result
-mul-result c = record { fits = omega (arith, below-product (c .before .before .count32 .result) (c .count322 .result) (c .before .before .count32 .ensures .1) (c .count322 .ensures .1)) }
-
--- src/lib.rt:276:1
+-- src/lib.rt:344:1
 same-length : tie.Need-same-length
 same-length c = search needs
 
--- src/lib.rt:276:1
+-- src/lib.rt:344:1
 returns : tie.Need-returns
 returns c = (
-  matrix32-is (c .before .before .before .before .before .before .before .before .before .before .before .before .before .before .before .before .before .before .before .before .before .before .args .op) (c .before .before .before .before .before .before .before .before .before .before .before .before .before .before .before .before .before .before .before .before .before .before .args .state .now) (c .before .before .before .before .before .before .matrix32 .last .0) (c .before .before .before .before .before .before .before .before .before .before .before .before .before .before .before .before .before .before .before .before .x-mask .result) (c .before .before .before .before .before .before .before .before .before .before .before .before .before .before .before .before .before .x-factors .result) (c .before .before .before .before .before .before .before .before .before .before .before .before .before .before .before .y-factors .result) (c .before .before .before .before .before .before .before .before .shift .result) (c .before .before .before .before .before .before .before .keeps-z .result)
-      (c .before .before .before .before .before .before .before .before .before .before .before .before .before .before .before .before .before .before .before .before .x-mask .ensures) (c .before .before .before .before .before .before .before .before .before .before .before .before .before .before .before .before .before .x-factors .ensures) (c .before .before .before .before .before .before .before .before .before .before .before .before .before .before .before .y-factors .ensures) (c .before .before .before .before .before .before .before .before .shift .ensures .0) (c .before .before .before .before .before .before .before .before .shift .ensures .1) (c .before .before .before .before .before .before .before .keeps-z .ensures)
-      (c .before .before .before .before .before .before .before .before .before .before .before .before .before .before .y-mask .result) (c .before .before .before .before .before .before .before .before .before .before .before .before .before .before .y-mask .ensures) (c .before .before .before .before .before .before .matrix32 .ensures),
-  matrix32-count (c .before .before .before .before .before .before .before .before .before .before .before .before .before .before .before .before .before .before .before .before .before .before .args .op) (c .before .before .before .before .before .before .before .before .before .before .before .before .before .before .before .before .before .before .before .before .x-mask .result) (c .before .before .before .before .before .before .before .before .before .before .before .before .before .before .y-mask .result) (c .before .before .count32 .result) (c .count322 .result) (c .before .before .before .before .before .before .before .before .before .before .before .before .before .before .before .before .before .before .before .before .x-mask .ensures) (c .before .before .before .before .before .before .before .before .before .before .before .before .before .before .y-mask .ensures) (c .before .before .count32 .ensures .0) (c .count322 .ensures .0),
+  matrix32-is (c .before .before .before .before .before .before .before .before .before .before .before .before .before .before .before .before .before .before .before .before .before .args .op) (c .before .before .before .before .before .before .before .before .before .before .before .before .before .before .before .before .before .before .before .before .before .args .state .now) (c .before .before .before .before .before .matrix32 .last .0) (c .before .before .before .before .before .before .before .before .before .before .before .before .before .before .before .before .before .before .before .x-mask .result) (c .before .before .before .before .before .before .before .before .before .before .before .before .before .before .before .before .x-factors .result) (c .before .before .before .before .before .before .before .before .before .before .before .before .before .before .y-factors .result) (c .before .before .before .before .before .before .before .shift .result) (c .before .before .before .before .before .before .keeps-z .result)
+      (c .before .before .before .before .before .before .before .before .before .before .before .before .before .before .before .before .before .before .before .x-mask .ensures) (c .before .before .before .before .before .before .before .before .before .before .before .before .before .before .before .before .x-factors .ensures) (c .before .before .before .before .before .before .before .before .before .before .before .before .before .before .y-factors .ensures) (c .before .before .before .before .before .before .before .shift .ensures .0) (c .before .before .before .before .before .before .before .shift .ensures .1) (c .before .before .before .before .before .before .keeps-z .ensures)
+      (c .before .before .before .before .before .before .before .before .before .before .before .before .before .y-mask .result) (c .before .before .before .before .before .before .before .before .before .before .before .before .before .y-mask .ensures) (c .before .before .before .before .before .matrix32 .ensures),
+  matrix32-count (c .before .before .before .before .before .before .before .before .before .before .before .before .before .before .before .before .before .before .before .before .before .args .op) (c .before .before .before .before .before .before .before .before .before .before .before .before .before .before .before .before .before .before .before .x-mask .result) (c .before .before .before .before .before .before .before .before .before .before .before .before .before .y-mask .result) (c .matrix-lanes .result) (c .before .before .before .before .before .before .before .before .before .before .before .before .before .before .before .before .before .before .before .x-mask .ensures) (c .before .before .before .before .before .before .before .before .before .before .before .before .before .y-mask .ensures) (c .matrix-lanes .ensures),
 )
 
 pub matrix32-step-spec : {M : Type 1} → statement M
@@ -78,8 +69,6 @@ matrix32-step-spec =
     shift-requires
     keeps-z-requires
     matrix32-requires
-    count32-requires
-    count32-requires-2
-    mul-result
+    matrix-lanes-requires
     same-length
     returns)
