@@ -24,7 +24,7 @@ use Rattle.state.specs.Rows.{laneSum}
 use Rattle.state.proofs.Holds.{Bytes, laneAfter}
 use Rattle.state.proofs.RunLoop.{number-lt}
 use Rattle.state.proofs.RowsLoop.{same-lanes}
-use Rattle.mac16.specs.Products.{side, masked, otherThanX, term, rowOn, products, loadedBytes, xMask, yMask, xFactors, yFactors, productsOf}
+use Rattle.mac16.specs.Products.{side, masked, otherThanX, term, rowOn, products, loadedBytes, xMask, yMask, xSide, xFactors, yFactors, productsOf}
 
 -- ---- lists by their elements
 
@@ -47,7 +47,7 @@ module _ (op : ℕ) (s : List ℕ) where
   xy = take 1024 s
 
   x-factor : (i : ℕ) → i < 32 → getD (xFactors op s (xMask op)) i (pos 0) ≡ cond (xEnabled op i) (cond (bit op 29) (otherThanX op) (Mac16.xLane op xy i)) (pos 0)
-  unfolding xFactors masked side Mac16.xLane xy
+  unfolding xSide masked side Mac16.xLane xy
   x-factor i h =
       at (pos 0) _ 32 i h
       ∙ ap₂ (λ (on : Bool) (x : ℤ). cond on x (pos 0)) (at false (xEnabled op) 32 i h) (at (pos 0) _ 32 i h)

@@ -22,6 +22,7 @@ use Rattle.state.proofs.Holds.{Bytes, laneAfter, Holds}
 use Rattle.state.proofs.RunLoop.{in-run, among-yes, among-before, among-after}
 use Rattle.state.proofs.RowsLoop.{Below, rows-skip, rows-more, same-lanes}
 use Rattle.mac16.specs.Products.{term, rowTerms, split, rowOn, products}
+use Rattle.mac16.proofs.Sides.{split-at}
 
 -- ---- elements of the lists
 
@@ -30,11 +31,6 @@ unfolding rowTerms
 term-at b m s xs ys l h =
     let f : ℕ → ℕ = λ i. term b s (getD xs i (pos 0)) (getD ys i (pos 0)) in
     getD-table f 0 0 m l h ∙ ap f (zero-add l)
-
-split-at : {A : Type 0} (d : A) (xs : List A) (k : ℕ) → k < 32 → getD (split d xs) k d ≡ getD xs (2 * (k % 16) + k / 16) d
-unfolding split
-split-at d xs k h =
-    getD-table (λ i. getD xs (2 * (i % 16) + i / 16) d) d 0 32 k h ∙ ap (λ (i : ℕ). getD xs (2 * (i % 16) + i / 16) d) (zero-add k)
 
 -- ---- rows of a run
 

@@ -68,8 +68,11 @@ xMask op = table (Mac16.xEnabled op) 0 32
 abbrev pub yMask : ℕ → List Bool
 yMask op = table (Mac16.yEnabled op) 0 32
 
-unfoldable pub xFactors : ℕ → List ℕ → List Bool → List ℤ
-xFactors op s on = masked on (table (side (bit op 61) (bit op 29) (otherThanX op) (loadedBytes s xBase (bits op 10 18))) 0 32)
+unfoldable pub xSide : ℕ → List ℕ → List ℤ
+xSide op s = table (side (bit op 61) (bit op 29) (otherThanX op) (loadedBytes s xBase (bits op 10 18))) 0 32
+
+abbrev pub xFactors : ℕ → List ℕ → List Bool → List ℤ
+xFactors op s on = masked on (xSide op s)
 
 unfoldable pub yFactors : ℕ → List ℕ → List ℤ
 yFactors op s = table (side (bit op 60) (bit op 28) (pos 1) (loadedBytes s yBase (bits op 0 8))) 0 32

@@ -13,7 +13,7 @@ ghost use Rattle.isa.specs.Enable.{mac16Enables};
 ghost use Rattle.isa.specs.Mac16 as Mac16;
 ghost use Rattle.isa.specs.Mac16.{vector, matrix16, matrix32};
 ghost use Rattle.state.specs.Rows.{runSum};
-ghost use Rattle.mac16.specs.Products.{side, masked, otherThanX, term, rowTerms, split, products, xMask, yMask, xFactors, yFactors, productsOf};
+ghost use Rattle.mac16.specs.Products.{side, masked, otherThanX, term, rowTerms, split, products, xMask, yMask, xSide, xFactors, yFactors, productsOf};
 
 // ---- factors
 
@@ -91,12 +91,13 @@ fn terms16(xs: &[i16; 32], ys: &[i16; 32], s: u32) -> [u16; 32]
     out
 }
 
-fn terms32(xs: &[i16; 32], ys: &[i16; 32], s: u32) -> [u32; 32]
-    ensures { λ r. ⌜ r ≡ rowTerms 4 32 (s % 32) (now (xs .entry)) (now (ys .entry)) ⌝ }
+// Masks X itself: with a shorter body the compiler unrolls the loop and does one lane at a time.
+fn terms32(xs: &[i16; 32], on: &[bool; 32], ys: &[i16; 32], s: u32) -> [u32; 32]
+    ensures { λ r. ⌜ r ≡ rowTerms 4 32 (s % 32) (masked (now (on .entry)) (now (xs .entry))) (now (ys .entry)) ⌝ }
 {
     let mut out = [0u32; 32];
     for i in 0..32 {
-        out[i] = term32(xs[i], ys[i], s);
+        out[i] = term32(kept_if(xs[i], on[i]), ys[i], s);
     }
     out
 }
@@ -139,16 +140,22 @@ fn other_than_x(op: u64) -> i16
     if operand::flag(op, 28) { 0 } else { 1 }
 }
 
-fn x_factors(state: &[u8], op: u64, on: &[bool; 32]) -> [i16; 32]
-    ensures { λ r. ⌜ r ≡ xFactors op (now (state .entry)) (now (on .entry)) ⌝ }
+fn x_side(state: &[u8], op: u64) -> [i16; 32]
+    ensures { λ r. ⌜ r ≡ xSide op (now (state .entry)) ⌝ }
 {
     let bytes = state::load(state, false, operand::field(op, 10, 18));
-    let xs = side_of(
+    side_of(
         &bytes,
         operand::flag(op, 61),
         operand::flag(op, 29),
         other_than_x(op),
-    );
+    )
+}
+
+fn x_factors(state: &[u8], op: u64, on: &[bool; 32]) -> [i16; 32]
+    ensures { λ r. ⌜ r ≡ xFactors op (now (state .entry)) (now (on .entry)) ⌝ }
+{
+    let xs = x_side(state, op);
     masked_by(on, &xs)
 }
 
@@ -187,9 +194,9 @@ fn pair32(
     keep: bool,
 )
     ensures { λ _. ⌜ now (state .exit) ≡ cond (eqb (length (now (state .entry))) stateLength)
-        (applied (runSum 4 (j * 2) 2 (rowTerms 4 32 (s % 32) (now (xs .entry)) (now (ys .entry))) (now (on .entry)) keep) (now (state .entry))) (now (state .entry)) ⌝ }
+        (applied (runSum 4 (j * 2) 2 (rowTerms 4 32 (s % 32) (masked (now (on .entry)) (now (xs .entry))) (now (ys .entry))) (now (on .entry)) keep) (now (state .entry))) (now (state .entry)) ⌝ }
 {
-    let terms = terms32(xs, ys, s);
+    let terms = terms32(xs, on, ys, s);
     state::sum_pair32(state, j, &terms, on, keep);
 }
 
@@ -257,7 +264,7 @@ fn split_mask(on: &[bool; 32]) -> [bool; 32]
     out
 }
 
-// Rows 2 j and 2 j + 1 of matrix 32, where Y lane j is enabled; xs and on are split.
+// Rows 2 j and 2 j + 1 of matrix 32, where Y lane j is enabled; xs and on are split, and xs not masked.
 fn matrix32_pair(
     state: &mut [u8],
     j: usize,
@@ -270,7 +277,7 @@ fn matrix32_pair(
 )
     requires { ⌜ (length (now state) ≡ stateLength) × (j < 32) ⌝ }
     ensures { λ _. ⌜ now (state .exit) ≡ cond (getD (now (yon .entry)) j false)
-        (applied (runSum 4 (j * 2) 2 (rowTerms 4 32 (s % 32) (now (xs .entry)) (replicate 32 (getD (now (ys .entry)) j (pos 0)))) (now (on .entry)) keep) (now (state .entry)))
+        (applied (runSum 4 (j * 2) 2 (rowTerms 4 32 (s % 32) (masked (now (on .entry)) (now (xs .entry))) (replicate 32 (getD (now (ys .entry)) j (pos 0)))) (now (on .entry)) keep) (now (state .entry)))
         (now (state .entry)) ⌝ }
 {
     if !yon[j] {
@@ -291,7 +298,7 @@ fn matrix32(
     keep: bool,
 )
     requires { ⌜ length (now state) ≡ stateLength ⌝ }
-    ensures { λ _. ⌜ now (state .exit) ≡ applied (products Mac16.matrix32 0 (now (xs .entry)) (now (on .entry)) (now (ys .entry)) (now (yon .entry)) (s % 32) keep) (now (state .entry)) ⌝ }
+    ensures { λ _. ⌜ now (state .exit) ≡ applied (products Mac16.matrix32 0 (masked (now (on .entry)) (now (xs .entry))) (now (on .entry)) (now (ys .entry)) (now (yon .entry)) (s % 32) keep) (now (state .entry)) ⌝ }
 {
     let lanes = split_lanes(xs);
     let mask = split_mask(on);
@@ -346,7 +353,7 @@ fn matrix32_step(state: &mut [u8], op: u64) -> u64
     ensures { λ r. ⌜ (now (state .exit) ≡ applied (productsOf Mac16.matrix32 op (now (state .entry))) (now (state .entry))) × (r ≡ lanesOn (Mac16.effect Mac16.matrix32 op)) ⌝ }
 {
     let on = x_mask(op);
-    let xs = x_factors(state, op, &on);
+    let xs = x_side(state, op);
     let ys = y_factors(state, op);
     let yon = y_mask(op);
     matrix32(state, &xs, &on, &ys, &yon, shift(op), keeps_z(op));

@@ -1,5 +1,5 @@
 use borrow.Author.Tests.{not-true, not-false, eq-eqb}
-use Rattle.mac16.specs.Products.{rowTerms}
+use Rattle.mac16.specs.Products.{masked, rowTerms}
 use Rattle.state.specs.Rows.{runSum}
 use Rattle.isa.specs.Effect.{applied}
 use lib.Dec.{eqb}
@@ -50,7 +50,7 @@ returns-2 : tie.Need-returns-2
 returns-2 c =
     c .before .before .pair32 .ensures
     ∙ pick-true _ _ (eq-eqb (length (c .before .before .before .before .before .before .before .before .before .args .state .now)) 5120 (c .before .before .before .before .before .before .before .before .before .pre .0))
-    ∙ ap (λ (y : ℤ). applied (runSum 4 (c .before .before .before .before .before .before .before .before .before .args .j * 2) 2 (rowTerms 4 32 (c .before .before .before .before .before .before .before .before .before .args .s % 32) (c .before .before .before .before .before .before .before .before .before .args .xs .now) (replicate 32 y)) (c .before .before .before .before .before .before .before .before .before .args .on .now) (c .before .before .before .before .before .before .before .before .before .args .keep)) (c .before .before .before .before .before .before .before .before .before .args .state .now)) (toZ-ofZ {w = w16} (sfits-of (c .before .before .before .before .before .y .given)))
+    ∙ ap (λ (y : ℤ). applied (runSum 4 (c .before .before .before .before .before .before .before .before .before .args .j * 2) 2 (rowTerms 4 32 (c .before .before .before .before .before .before .before .before .before .args .s % 32) (masked (c .before .before .before .before .before .before .before .before .before .args .on .now) (c .before .before .before .before .before .before .before .before .before .args .xs .now)) (replicate 32 y)) (c .before .before .before .before .before .before .before .before .before .args .on .now) (c .before .before .before .before .before .before .before .before .before .args .keep)) (c .before .before .before .before .before .before .before .before .before .args .state .now)) (toZ-ofZ {w = w16} (sfits-of (c .before .before .before .before .before .y .given)))
     ∙ sym (pick-true _ _ (not-false (getD (c .before .before .before .before .before .before .before .before .before .args .yon .now) (c .before .before .before .before .before .before .before .before .before .args .j) false) (c .before .before .before .before .before .before .if1 .left)))
 
 pub matrix32-pair-spec : {M : Type 1} → statement M

@@ -1,4 +1,4 @@
-use Rattle.mac16.specs.Products.{rowTerms}
+use Rattle.mac16.specs.Products.{masked, rowTerms}
 use Rattle.state.specs.Rows.{runSum}
 use Rattle.isa.specs.Effect.{applied}
 use lib.Dec.{eqb}
