@@ -26,7 +26,7 @@ use Rattle.mac16.proofs.Sides.{split-at}
 
 -- ---- elements of the lists
 
-term-at : (b m s : ℕ) (xs ys : List ℤ) (l : ℕ) → l < m → getD (rowTerms b m s xs ys) l 0 ≡ term b s (getD xs l (pos 0)) (getD ys l (pos 0))
+pub term-at : (b m s : ℕ) (xs ys : List ℤ) (l : ℕ) → l < m → getD (rowTerms b m s xs ys) l 0 ≡ term b s (getD xs l (pos 0)) (getD ys l (pos 0))
 unfolding rowTerms
 term-at b m s xs ys l h =
     let f : ℕ → ℕ = λ i. term b s (getD xs i (pos 0)) (getD ys i (pos 0)) in

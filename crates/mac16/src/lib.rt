@@ -91,17 +91,6 @@ fn terms16(xs: &[i16; 32], ys: &[i16; 32], s: u32) -> [u16; 32]
     out
 }
 
-// Masks X itself: with a shorter body the compiler unrolls the loop and does one lane at a time.
-fn terms32(xs: &[i16; 32], on: &[bool; 32], ys: &[i16; 32], s: u32) -> [u32; 32]
-    ensures { λ r. ⌜ r ≡ rowTerms 4 32 (s % 32) (masked (now (on .entry)) (now (xs .entry))) (now (ys .entry)) ⌝ }
-{
-    let mut out = [0u32; 32];
-    for i in 0..32 {
-        out[i] = term32(kept_if(xs[i], on[i]), ys[i], s);
-    }
-    out
-}
-
 // ---- what an operand says
 
 fn x_mask(op: u64) -> [bool; 32]
@@ -184,6 +173,7 @@ fn row16(
     state::sum_row16(state, row, &terms, on, keep);
 }
 
+// Rows 2 j and 2 j + 1 of 32-bit lanes. One loop makes the terms, masked, and adds them: the compiler unrolls shorter ones, and does one lane at a time.
 fn pair32(
     state: &mut [u8],
     j: usize,
@@ -196,8 +186,17 @@ fn pair32(
     ensures { λ _. ⌜ now (state .exit) ≡ cond (eqb (length (now (state .entry))) stateLength)
         (applied (runSum 4 (j * 2) 2 (rowTerms 4 32 (s % 32) (masked (now (on .entry)) (now (xs .entry))) (now (ys .entry))) (now (on .entry)) keep) (now (state .entry))) (now (state .entry)) ⌝ }
 {
-    let terms = terms32(xs, on, ys, s);
-    state::sum_pair32(state, j, &terms, on, keep);
+    if state.len() != 5120 {
+        return;
+    }
+    if 32 <= j {
+        return;
+    }
+    let row = j * 2;
+    for i in 0..32 {
+        let term = term32(kept_if(xs[i], on[i]), ys[i], s);
+        state::sum_lane32(state, 1024 + (row * 64 + i * 4), term, on[i], keep);
+    }
 }
 
 // Row 2 j + p of matrix 16, where Y lane j is enabled.

@@ -91,7 +91,7 @@ pub fn sum_row16(state: &mut [u8], row: usize, values: &[u16; 32], on: &[bool; 3
     }
 }
 
-// ---- pairs of rows of 32-bit lanes, which the compiler does several at a time
+// ---- 32-bit lanes
 
 fn summed32(z: u32, v: u32, on: bool, keep: bool) -> u32
     ensures { λ r. ⌜ r ≡ laneSum 4 z v on keep ⌝ }
@@ -102,26 +102,10 @@ fn summed32(z: u32, v: u32, on: bool, keep: bool) -> u32
     if on { v } else { z }
 }
 
-fn sum_lane32(state: &mut [u8], at: usize, v: u32, on: bool, keep: bool)
+// A lane: where old Z is kept, a value is added to it; where it is not, an enabled lane receives the value.
+pub fn sum_lane32(state: &mut [u8], at: usize, v: u32, on: bool, keep: bool)
     ensures { λ _. ⌜ now (state .exit) ≡ sets (now (state .entry)) at (bytesOf 4 (laneSum 4 (number 4 (byteAt (now (state .entry))) at) v on keep)) ⌝ }
 {
     let z = number::get32(state, at);
     number::put32(state, at, summed32(z, v, on, keep));
-}
-
-// Rows 2 j and 2 j + 1.
-pub fn sum_pair32(state: &mut [u8], j: usize, values: &[u32; 32], on: &[bool; 32], keep: bool)
-    ensures { λ _. ⌜ now (state .exit) ≡ cond (eqb (length (now (state .entry))) stateLength)
-        (applied (runSum 4 (j * 2) 2 (now (values .entry)) (now (on .entry)) keep) (now (state .entry))) (now (state .entry)) ⌝ }
-{
-    if state.len() != 5120 {
-        return;
-    }
-    if 32 <= j {
-        return;
-    }
-    let row = j * 2;
-    for i in 0..32 {
-        sum_lane32(state, 1024 + (row * 64 + i * 4), values[i], on[i], keep);
-    }
 }
