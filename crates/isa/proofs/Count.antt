@@ -1,20 +1,19 @@
 -- The answer's number: the enabled lanes, counted over all of Z, and their bytes.
 -- Assumes nothing.
-use mathlib.Core.Path.{_≡_, refl, sym, ap, ap₂, _∙_, subst}
-use mathlib.Core.Bool.{Bool, true, false, cond, not, _&&_}
+use mathlib.Core.Path.{_≡_, refl, sym, ap, ap₂, _∙_}
+use mathlib.Core.Bool.{Bool, false, cond}
 use mathlib.Core.List.{List, [], _∷_}
 use Prim.Native.Nat.{ℕ, zero, suc, _+_, _*_, _<_}
 use native.Mathlib.Nat.{add-zero, add-suc, suc-mul, mul-add, mul-comm, zero-mul, zero-add}
 use native.Mathlib.Omega.{arith}
 use lib.ListN.{length}
-use Rattle.isa.specs.declared.Answer.{Answer}
 use Rattle.isa.specs.declared.Answer.the-variants.{Done}
 use Rattle.isa.specs.State.{lanesOf, start}
-use Rattle.isa.specs.Effect.{Effect, Fills, touches, sum, count, lanesOn}
+use Rattle.isa.specs.Effect.{Effect, touches, sum, count, lanesOn}
 use Rattle.isa.specs.Call.{Call, effectOf}
 use Rattle.isa.specs.Answers.{Row, rowsAbove, firstOf, answerOf, isDone}
-use Rattle.isa.specs.Demands.{Counted, DoneCounted}
-use Rattle.number.proofs.Tests.{true-false, and-left, and-right, two, pick-true, pick-false}
+use Rattle.isa.specs.Demands.{DoneCounted}
+use Rattle.number.proofs.Tests.{true-false, two, pick-true, pick-false}
 use Rattle.isa.proofs.Place.{lanes-fill, start-row, start-lane, start-in}
 use Rattle.isa.proofs.Applied.{not-xy, touches-in}
 use Rattle.isa.proofs.Lawful.{fills}

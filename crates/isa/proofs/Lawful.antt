@@ -1,13 +1,12 @@
 -- Both instructions are lawful: their lanes fill a row, and a call that is said to only add does.
 -- Assumes nothing.
-use mathlib.Core.Path.{_≡_, refl, sym, ap, _∙_, subst}
-use mathlib.Core.Bool.{Bool, true, false, cond, not, _&&_, _||_}
-use mathlib.Core.List.{List}
+use mathlib.Core.Path.{_≡_, refl, sym, ap, _∙_}
+use mathlib.Core.Bool.{Bool, true, false, cond, not}
 use Prim.Native.Nat.{ℕ, _+_, _%_}
 use native.Mathlib.Nat.{mod-mod}
 use lib.Dec.{eqb}
 use borrow.Author.Tests.{eqb-true, not-true}
-use lib.IntN.{ℤ, pos, negℤ, _+ℤ_, _*ℤ_}
+use lib.IntN.{ℤ, negℤ, _+ℤ_, _*ℤ_}
 use Rattle.number.specs.Bytes.{span}
 use Rattle.number.specs.Integers.{signed, wrap, _≫_}
 use Rattle.number.proofs.Modular.{adds-modulo}

@@ -9,7 +9,6 @@ use lib.ListN.{length}
 use borrow.Author.Tests.{eqb-true}
 use Rattle.isa.specs.declared.Answer.{Answer}
 use Rattle.isa.specs.declared.Answer.the-variants.{Done, NoOp, Refused}
-use Rattle.isa.specs.declared.Normal.{Normal}
 use Rattle.isa.specs.declared.Normal.the-variants as normal
 use Rattle.isa.specs.Operand.{bits}
 use Rattle.isa.specs.State.{stateLength}

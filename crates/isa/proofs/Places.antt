@@ -1,11 +1,10 @@
 -- The places of 01 and the places of the effects are the same.
 -- Assumes nothing.
 use mathlib.Core.Path.{_≡_, refl, sym, ap, ap₂, _∙_, subst}
-use mathlib.Core.Bool.{Bool, true, false, cond, _&&_, _||_}
-use mathlib.Core.Logic.{_⊎_, inl, inr}
+use mathlib.Core.Bool.{Bool, _&&_, _||_}
+use mathlib.Core.Logic.{inl, inr}
 use Prim.Native.Nat.{ℕ, _+_, _*_, _/_, _%_, _<_}
 use native.Mathlib.Omega.{arith}
-use lib.Dec.{eqb}
 use lib.Arith.{digits-lt, digits-div, digits-mod, mod-mul}
 use native.Mathlib.Nat.{mod-lt, div-lt-iff-lt-mul, div-add-mod', add-mul, mul-assoc, mul-div-cancel}
 use borrow.Author.Tests.{eq-eqb, eqb-true}
@@ -13,7 +12,7 @@ use Rattle.isa.specs.Operand.{bits, bit}
 use Rattle.isa.specs.Mac16 as Mac16
 use Rattle.isa.specs.Mac16.{vector, matrix16, matrix32}
 use Rattle.isa.specs.Vecint as Vecint
-use Rattle.isa.specs.Places.{Mac16Placed, VecintPlaced, VecintOnly, vecintRow, vecintLane}
+use Rattle.isa.specs.Places.{Mac16Placed, VecintPlaced, VecintOnly}
 use Rattle.isa.proofs.Place.{factor-pos}
 use Rattle.number.proofs.Tests.{either, and-left}
 use Rattle.isa.proofs.NormalVecint.{Counts, rows-each}

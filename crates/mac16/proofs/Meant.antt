@@ -3,28 +3,28 @@
 use mathlib.Core.Path.{_≡_, refl, sym, ap, ap₂, _∙_}
 use mathlib.Core.Bool.{Bool, true, false, cond, not, _&&_, _||_}
 use mathlib.Core.List.{List}
-use Prim.Native.Nat.{ℕ, zero, suc, _+_, _*_, _/_, _%_, _^_, _≤_, _<_}
+use Prim.Native.Nat.{ℕ, suc, _+_, _*_, _/_, _%_, _^_, _≤_, _<_}
 use native.Mathlib.Nat.{zero-add, add-zero, mod-eq-of-lt, zero-div, zero-mod, one-mul, mul-one, zero-mul}
 use native.Mathlib.Omega.{arith}
 use lib.Dec.{eqb}
-use lib.IntN.{ℤ, pos, negsuc, negℤ, _+ℤ_, _*ℤ_}
+use lib.IntN.{ℤ, pos, negsuc, negℤ, _*ℤ_}
 use lib.ListN.{length, take, getD}
 use lib.Seq.{getD-take}
 use Rattle.number.specs.Bytes.{span, byteAt, number, table}
 use Rattle.number.specs.Integers.{signed, wrap, _≫_}
 use Rattle.number.proofs.Bytes.{getD-table, number-same}
 use Rattle.number.proofs.Modular.{adds-modulo}
-use Rattle.number.proofs.Tests.{two, pick-true, pick-false}
+use Rattle.number.proofs.Tests.{pick-true, pick-false}
 use Rattle.isa.specs.Operand.{bits, bit}
 use Rattle.isa.specs.State.{xBase, yBase, start, loaded}
-use Rattle.isa.specs.Effect.{Effect, newLane, applied}
+use Rattle.isa.specs.Effect.{newLane, applied}
 use Rattle.isa.specs.Mac16 as Mac16
 use Rattle.isa.specs.Mac16.{Form, vector, matrix16, matrix32, zWidth, iOf, jOf, xEnabled, yEnabled}
 use Rattle.state.specs.Rows.{laneSum}
 use Rattle.state.proofs.Holds.{Bytes, laneAfter}
 use Rattle.state.proofs.RunLoop.{number-lt}
 use Rattle.state.proofs.RowsLoop.{same-lanes}
-use Rattle.mac16.specs.Products.{side, masked, otherThanX, term, rowOn, products, loadedBytes, xMask, yMask, xSide, xFactors, yFactors, productsOf}
+use Rattle.mac16.specs.Products.{side, masked, otherThanX, term, rowOn, loadedBytes, xMask, yMask, xSide, xFactors, yFactors, productsOf}
 
 -- ---- lists by their elements
 

@@ -1,23 +1,23 @@
 -- A whole step of each form, from the parts that the code has read.
 -- Assumes nothing.
 use mathlib.Core.Path.{_≡_, refl, sym, ap, _∙_}
-use mathlib.Core.Bool.{Bool, true, false, cond, not, _&&_, _||_}
+use mathlib.Core.Bool.{Bool, false, cond, not, _&&_, _||_}
 use mathlib.Core.List.{List}
 use Prim.Native.Nat.{ℕ, _*_, _/_, _%_, _≤_, _<_}
 use native.Mathlib.Nat.{mod-eq-of-lt, mul-le-mul}
 use native.Mathlib.Omega.{arith}
 use lib.Dec.{eqb}
-use lib.IntN.{ℤ, pos}
+use lib.IntN.{ℤ}
 use lib.ListN.{length, getD}
 use borrow.Author.Tests.{eq-eqb}
-use Rattle.number.proofs.Tests.{pick-true, pick-false}
+use Rattle.number.proofs.Tests.{pick-true}
 use Rattle.isa.specs.Operand.{bits, bit}
-use Rattle.isa.specs.Effect.{Effect, applied, lanesOn, count}
+use Rattle.isa.specs.Effect.{applied, lanesOn, count}
 use Rattle.isa.specs.Mac16 as Mac16
-use Rattle.isa.specs.Mac16.{Form, vector, matrix16, matrix32, zWidth, iOf, jOf, formOf}
+use Rattle.isa.specs.Mac16.{Form, vector, matrix16, matrix32, formOf}
 use Rattle.state.specs.Rows.{runSum}
 use Rattle.state.proofs.Holds.{Bytes}
-use Rattle.mac16.specs.Products.{term, rowTerms, rowOn, products, xMask, yMask, xFactors, yFactors, productsOf}
+use Rattle.mac16.specs.Products.{rowTerms, rowOn, products, xMask, yMask, xFactors, yFactors, productsOf}
 use Rattle.mac16.proofs.Rows.{vector-row}
 use Rattle.mac16.proofs.Counts.{count-mask, count-vector, count-matrix16, count-matrix32}
 use Rattle.mac16.proofs.Meant.{meant}

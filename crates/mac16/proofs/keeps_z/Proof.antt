@@ -1,11 +1,8 @@
 use mathlib.Core.Bool.{not}
-use mathlib.Core.Path.{_≡_, refl, sym, ap, ap₂, _∙_}
+use mathlib.Core.Path.{ap}
 use borrow.Author.Needs.{needs}
 use Rattle.mac16.proofs.keeps_z.Statement.{statement}
 use Rattle.mac16.proofs.keeps_z.Tie as tie
-use Rattle.mac16.proofs.keeps_z.Reads as reads
-use Rattle.mac16.proofs.keeps_z.Lts as lts
-use Rattle.operand.proofs.flag.Reads as flag-reads
 
 -- src/lib.rt:116:6
 flag-requires : tie.Need-flag-requires

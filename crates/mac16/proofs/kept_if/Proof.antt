@@ -1,12 +1,8 @@
 use Rattle.number.proofs.Tests.{pick-true, pick-false}
-use mir.Val.{toZ, ofZ}
-use mir.Syntax.{w16, w64}
 use mir.Facts.{toZ-ofZ}
-use mathlib.Core.Path.{_≡_, refl, sym, ap, ap₂, _∙_}
+use mathlib.Core.Path.{sym, _∙_}
 use Rattle.mac16.proofs.kept_if.Statement.{statement}
 use Rattle.mac16.proofs.kept_if.Tie as tie
-use Rattle.mac16.proofs.kept_if.Reads as reads
-use Rattle.mac16.proofs.kept_if.Lts as lts
 
 -- src/lib.rt:54:1
 returns : tie.Need-returns

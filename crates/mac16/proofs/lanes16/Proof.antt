@@ -1,24 +1,20 @@
 use borrow.Author.Needs.{needs}
 use Rattle.isa.specs.Mac16 as Mac16
-use Rattle.number.proofs.Slice.{one-byte, two-bytes}
+use Rattle.number.proofs.Slice.{two-bytes}
 use Rattle.number.specs.Integers.{signed}
 use Rattle.number.specs.Bytes.{byteAt}
 use Rattle.number.proofs.Fill.{Filled, fill-more, fill-all}
 use native.Mathlib.Nat.{not-suc-le-zero}
-use mathlib.Core.Bool.{Bool, true, false, cond}
-use lib.IntN.{ℤ, pos}
-use lib.ListN.{length, getD, length-set, replicate}
-use Prim.Native.Nat.{ℕ, _+_, _*_, _-_, _/_, _%_, _≤_}
+use mathlib.Core.Bool.{false}
+use lib.IntN.{pos}
+use lib.ListN.{length, length-set}
+use Prim.Native.Nat.{_*_, _-_, _≤_}
 use mir.Facts.{toZ-ofZ}
 use borrow.Author.Needs.{sfits-of}
 use native.Mathlib.Omega.{arith}
-use mathlib.Core.Path.{_≡_, refl, sym, ap, ap₂, _∙_}
+use mathlib.Core.Path.{_≡_, refl, ap, _∙_}
 use Rattle.mac16.proofs.lanes16.Statement.{statement}
 use Rattle.mac16.proofs.lanes16.Tie as tie
-use Rattle.mac16.proofs.lanes16.Reads as reads
-use Rattle.mac16.proofs.lanes16.Lts as lts
-use Rattle.number.proofs.pair.Reads as pair-reads
-use Rattle.number.proofs.signed16.Reads as signed16-reads
 
 abbrev Inv-loop : tie.InvT-loop
 Inv-loop bytes out₀ i₀ out i = (i ≤ 32) × (length out ≡ 32) × Filled (pos 0) (Mac16.lane false (byteAt bytes)) out i

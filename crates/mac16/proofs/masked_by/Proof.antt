@@ -2,22 +2,17 @@ use borrow.Author.Needs.{needs}
 use Rattle.mac16.specs.Products.{masked}
 use Rattle.number.proofs.Fill.{Filled, fill-more, fill-all}
 use native.Mathlib.Nat.{not-suc-le-zero}
-use mathlib.Core.List.{List}
-use mathlib.Core.Bool.{Bool, true, false, cond}
+use mathlib.Core.Bool.{false, cond}
 use lib.IntN.{ℤ, pos}
-use lib.ListN.{length, getD, length-set, replicate}
-use Prim.Native.Nat.{ℕ, _+_, _*_, _-_, _/_, _%_, _≤_}
-use mir.Val.{toZ, ofZ}
-use mir.Syntax.{w16, w64}
+use lib.ListN.{length, getD, length-set}
+use Prim.Native.Nat.{_-_, _≤_}
+use mir.Syntax.{w16}
 use mir.Facts.{toZ-ofZ}
 use borrow.Author.Needs.{sfits-of}
 use native.Mathlib.Omega.{arith}
-use mathlib.Core.Path.{_≡_, refl, sym, ap, ap₂, _∙_}
+use mathlib.Core.Path.{_≡_, refl, ap, _∙_}
 use Rattle.mac16.proofs.masked_by.Statement.{statement}
 use Rattle.mac16.proofs.masked_by.Tie as tie
-use Rattle.mac16.proofs.masked_by.Reads as reads
-use Rattle.mac16.proofs.masked_by.Lts as lts
-use Rattle.mac16.proofs.kept_if.Reads as kept-if-reads
 
 abbrev Inv-loop : tie.InvT-loop
 Inv-loop on xs out₀ i₀ out i = (i ≤ 32) × (length out ≡ 32) × Filled (pos 0) (λ k. cond (getD on k false) (getD xs k (pos 0)) (pos 0)) out i

@@ -4,18 +4,12 @@ use Rattle.mac16.specs.Products.{products}
 use Rattle.state.proofs.RowsLoop.{rows-start, rows-end}
 use Rattle.state.proofs.Holds.{Bytes}
 use Rattle.isa.specs.Mac16 as Mac16
-use mathlib.Core.List.{List}
-use mathlib.Core.Bool.{Bool, false, cond}
-use lib.IntN.{ℤ, pos}
-use lib.ListN.{length, getD, length-set, replicate}
-use Prim.Native.Nat.{ℕ, _+_, _*_, _-_, _/_, _%_, _≤_, _<_}
+use lib.ListN.{length}
+use Prim.Native.Nat.{_*_, _-_, _%_, _≤_, _<_}
 use native.Mathlib.Omega.{arith}
-use mathlib.Core.Path.{_≡_, refl, sym, ap, ap₂, _∙_}
+use mathlib.Core.Path.{_≡_, refl, sym, _∙_}
 use Rattle.mac16.proofs.matrix16.Statement.{statement}
 use Rattle.mac16.proofs.matrix16.Tie as tie
-use Rattle.mac16.proofs.matrix16.Reads as reads
-use Rattle.mac16.proofs.matrix16.Lts as lts
-use Rattle.mac16.proofs.matrix16_row.Reads as matrix16-row-reads
 
 abbrev Inv-loop : tie.InvT-loop
 Inv-loop state₀ p xs on ys yon s keep j₀ state j = (j ≤ 32) × ((hp : p < 2) → Done16 p hp xs on ys yon (s % 32) keep state₀ (2 * j) state) × (length state ≡ 5120) × Bytes state

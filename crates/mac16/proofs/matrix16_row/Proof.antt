@@ -2,23 +2,18 @@ use borrow.Author.Tests.{not-true, not-false, eq-eqb}
 use Rattle.mac16.specs.Products.{rowTerms}
 use Rattle.state.specs.Rows.{runSum}
 use Rattle.isa.specs.Effect.{applied}
-use lib.Dec.{eqb}
-use mathlib.Core.List.{List}
-use mathlib.Core.Bool.{Bool, false, cond}
-use lib.IntN.{ℤ, pos}
-use lib.ListN.{length, getD, length-set, replicate}
-use Prim.Native.Nat.{ℕ, _+_, _*_, _-_, _/_, _%_, _≤_}
+use mathlib.Core.Bool.{false}
+use lib.IntN.{ℤ}
+use lib.ListN.{length, getD, replicate}
+use Prim.Native.Nat.{_+_, _*_, _%_}
 use Rattle.number.proofs.Tests.{pick-true, pick-false}
-use mir.Syntax.{w16, w64}
+use mir.Syntax.{w16}
 use mir.Facts.{toZ-ofZ}
 use borrow.Author.Needs.{sfits-of}
-use mathlib.Core.Path.{_≡_, refl, sym, ap, ap₂, _∙_}
+use mathlib.Core.Path.{sym, ap, _∙_}
 use borrow.Author.Needs.{needs}
 use Rattle.mac16.proofs.matrix16_row.Statement.{statement}
 use Rattle.mac16.proofs.matrix16_row.Tie as tie
-use Rattle.mac16.proofs.matrix16_row.Reads as reads
-use Rattle.mac16.proofs.matrix16_row.Lts as lts
-use Rattle.mac16.proofs.row16.Reads as row16-reads
 
 -- src/lib.rt:167:9
 element-copy-out-if1 : tie.Need-element-copy-out-if1

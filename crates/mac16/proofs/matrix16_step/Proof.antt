@@ -4,17 +4,6 @@ use mathlib.Core.Path.{refl}
 use borrow.Author.Needs.{needs}
 use Rattle.mac16.proofs.matrix16_step.Statement.{statement}
 use Rattle.mac16.proofs.matrix16_step.Tie as tie
-use Rattle.mac16.proofs.matrix16_step.Reads as reads
-use Rattle.mac16.proofs.matrix16_step.Lts as lts
-use Rattle.mac16.proofs.keeps_z.Reads as keeps-z-reads
-use Rattle.mac16.proofs.matrix16.Reads as matrix16-reads
-use Rattle.mac16.proofs.matrix_lanes.Reads as matrix-lanes-reads
-use Rattle.mac16.proofs.shift.Reads as shift-reads
-use Rattle.mac16.proofs.x_factors.Reads as x-factors-reads
-use Rattle.mac16.proofs.x_mask.Reads as x-mask-reads
-use Rattle.mac16.proofs.y_factors.Reads as y-factors-reads
-use Rattle.mac16.proofs.y_mask.Reads as y-mask-reads
-use Rattle.mac16.proofs.z_row.Reads as z-row-reads
 
 -- src/lib.rt:327:14
 x-mask-requires : tie.Need-x-mask-requires

@@ -5,20 +5,11 @@ use Rattle.mac16.specs.Products.{masked, products}
 use Rattle.state.proofs.RowsLoop.{rows-start, rows-end}
 use Rattle.state.proofs.Holds.{Bytes}
 use Rattle.isa.specs.Mac16 as Mac16
-use mathlib.Core.List.{List}
-use mathlib.Core.Bool.{Bool, true, false, cond}
-use lib.IntN.{ℤ, pos}
-use lib.ListN.{length, getD, length-set, replicate}
-use Prim.Native.Nat.{ℕ, _+_, _*_, _-_, _/_, _%_, _≤_}
+use Prim.Native.Nat.{_*_, _-_, _%_, _≤_}
 use native.Mathlib.Omega.{arith}
-use mathlib.Core.Path.{_≡_, refl, sym, ap, ap₂, _∙_}
+use mathlib.Core.Path.{refl, sym, ap₂, _∙_}
 use Rattle.mac16.proofs.matrix32.Statement.{statement}
 use Rattle.mac16.proofs.matrix32.Tie as tie
-use Rattle.mac16.proofs.matrix32.Reads as reads
-use Rattle.mac16.proofs.matrix32.Lts as lts
-use Rattle.mac16.proofs.matrix32_pair.Reads as matrix32-pair-reads
-use Rattle.mac16.proofs.split_lanes.Reads as split-lanes-reads
-use Rattle.mac16.proofs.split_mask.Reads as split-mask-reads
 
 abbrev Inv-loop : tie.InvT-loop
 Inv-loop state₀ xs on ys yon s keep lanes mask j₀ state j = (j ≤ 32) × Done32 0 (masked on xs) on ys yon (s % 32) keep state₀ (j * 2) state × Bytes state

@@ -2,24 +2,18 @@ use borrow.Author.Tests.{not-true, not-false, eq-eqb}
 use Rattle.mac16.specs.Products.{masked, rowTerms}
 use Rattle.state.specs.Rows.{runSum}
 use Rattle.isa.specs.Effect.{applied}
-use lib.Dec.{eqb}
-use mathlib.Core.List.{List}
-use mathlib.Core.Bool.{Bool, true, false, cond}
-use lib.IntN.{ℤ, pos}
-use lib.ListN.{length, getD, length-set, replicate}
-use Prim.Native.Nat.{ℕ, _+_, _*_, _-_, _/_, _%_, _≤_}
+use mathlib.Core.Bool.{false}
+use lib.IntN.{ℤ}
+use lib.ListN.{length, getD, replicate}
+use Prim.Native.Nat.{_*_, _%_}
 use Rattle.number.proofs.Tests.{pick-true, pick-false}
-use mir.Val.{toZ, ofZ}
-use mir.Syntax.{w16, w64}
+use mir.Syntax.{w16}
 use mir.Facts.{toZ-ofZ}
 use borrow.Author.Needs.{sfits-of}
-use mathlib.Core.Path.{_≡_, refl, sym, ap, ap₂, _∙_}
+use mathlib.Core.Path.{sym, ap, _∙_}
 use borrow.Author.Needs.{needs}
 use Rattle.mac16.proofs.matrix32_pair.Statement.{statement}
 use Rattle.mac16.proofs.matrix32_pair.Tie as tie
-use Rattle.mac16.proofs.matrix32_pair.Reads as reads
-use Rattle.mac16.proofs.matrix32_pair.Lts as lts
-use Rattle.mac16.proofs.pair32.Reads as pair32-reads
 
 -- src/lib.rt:254:9
 element-copy-out-if1 : tie.Need-element-copy-out-if1

@@ -4,16 +4,6 @@ use Rattle.mac16.specs.Products.{masked}
 use borrow.Author.Needs.{needs}
 use Rattle.mac16.proofs.matrix32_step.Statement.{statement}
 use Rattle.mac16.proofs.matrix32_step.Tie as tie
-use Rattle.mac16.proofs.matrix32_step.Reads as reads
-use Rattle.mac16.proofs.matrix32_step.Lts as lts
-use Rattle.mac16.proofs.keeps_z.Reads as keeps-z-reads
-use Rattle.mac16.proofs.matrix32.Reads as matrix32-reads
-use Rattle.mac16.proofs.matrix_lanes.Reads as matrix-lanes-reads
-use Rattle.mac16.proofs.shift.Reads as shift-reads
-use Rattle.mac16.proofs.x_mask.Reads as x-mask-reads
-use Rattle.mac16.proofs.x_side.Reads as x-side-reads
-use Rattle.mac16.proofs.y_factors.Reads as y-factors-reads
-use Rattle.mac16.proofs.y_mask.Reads as y-mask-reads
 
 -- src/lib.rt:355:14
 x-mask-requires : tie.Need-x-mask-requires

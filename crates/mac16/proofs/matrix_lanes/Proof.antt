@@ -4,9 +4,6 @@ use Rattle.mac16.proofs.Whole.{below-product}
 use borrow.Author.Needs.{needs}
 use Rattle.mac16.proofs.matrix_lanes.Statement.{statement}
 use Rattle.mac16.proofs.matrix_lanes.Tie as tie
-use Rattle.mac16.proofs.matrix_lanes.Reads as reads
-use Rattle.mac16.proofs.matrix_lanes.Lts as lts
-use Rattle.operand.proofs.count32.Reads as count32-reads
 
 -- src/lib.rt:309:5
 count32-requires : tie.Need-count32-requires

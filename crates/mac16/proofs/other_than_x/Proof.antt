@@ -1,11 +1,8 @@
 use Rattle.number.proofs.Tests.{pick-true, pick-false}
-use mathlib.Core.Path.{_≡_, refl, sym, ap, ap₂, _∙_}
+use mathlib.Core.Path.{sym, _∙_}
 use borrow.Author.Needs.{needs}
 use Rattle.mac16.proofs.other_than_x.Statement.{statement}
 use Rattle.mac16.proofs.other_than_x.Tie as tie
-use Rattle.mac16.proofs.other_than_x.Reads as reads
-use Rattle.mac16.proofs.other_than_x.Lts as lts
-use Rattle.operand.proofs.flag.Reads as flag-reads
 
 -- src/lib.rt:122:8
 flag-requires : tie.Need-flag-requires

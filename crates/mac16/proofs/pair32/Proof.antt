@@ -1,5 +1,5 @@
 use borrow.Author.Needs.{needs}
-use mathlib.Core.Path.{_≡_, refl, sym, ap, ap₂, _∙_}
+use mathlib.Core.Path.{refl, sym, ap, ap₂, _∙_}
 use native.Mathlib.Omega.{arith}
 use Prim.Native.Nat.{ℕ, _+_, _*_, _-_, _%_, _≤_}
 use mir.Facts.{toZ-ofZ}
@@ -20,11 +20,6 @@ use Rattle.mac16.proofs.Sides.{masked-at}
 use Rattle.mac16.specs.Products.{masked, term, rowTerms}
 use Rattle.mac16.proofs.pair32.Statement.{statement}
 use Rattle.mac16.proofs.pair32.Tie as tie
-use Rattle.mac16.proofs.pair32.Reads as reads
-use Rattle.mac16.proofs.pair32.Lts as lts
-use Rattle.mac16.proofs.kept_if.Reads as kept-if-reads
-use Rattle.mac16.proofs.term32.Reads as term32-reads
-use Rattle.state.proofs.sum_lane32.Reads as sum-lane32-reads
 
 abbrev Inv-loop : tie.InvT-loop
 Inv-loop state₀ j xs ys on s keep row i₀ state i = (i ≤ 32) × Holds 4 16 refl state₀ state (Upto (runSum 4 (j * 2) 2 (rowTerms 4 32 (s % 32) (masked on xs) ys) on keep) 16 refl (j * 2) 2 state₀ i) × Bytes state

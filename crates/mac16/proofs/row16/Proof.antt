@@ -1,20 +1,14 @@
-use Rattle.mac16.specs.Products.{rowTerms}
 use Rattle.state.specs.Rows.{runSum}
 use Rattle.isa.specs.Effect.{applied}
 use lib.Dec.{eqb}
 use mathlib.Core.List.{List}
-use mathlib.Core.Bool.{Bool, false, cond}
-use lib.IntN.{ℤ, pos}
-use lib.ListN.{length, getD, length-set, replicate}
-use Prim.Native.Nat.{ℕ, _+_, _*_, _-_, _/_, _%_, _≤_}
-use mathlib.Core.Path.{_≡_, refl, sym, ap, ap₂, _∙_}
+use mathlib.Core.Bool.{cond}
+use lib.ListN.{length}
+use Prim.Native.Nat.{ℕ}
+use mathlib.Core.Path.{ap, _∙_}
 use borrow.Author.Needs.{needs}
 use Rattle.mac16.proofs.row16.Statement.{statement}
 use Rattle.mac16.proofs.row16.Tie as tie
-use Rattle.mac16.proofs.row16.Reads as reads
-use Rattle.mac16.proofs.row16.Lts as lts
-use Rattle.mac16.proofs.terms16.Reads as terms16-reads
-use Rattle.state.proofs.sum_row16.Reads as sum-row16-reads
 
 -- src/lib.rt:148:17
 terms16-requires : tie.Need-terms16-requires

@@ -3,9 +3,6 @@ use native.Mathlib.Omega.{arith}
 use borrow.Author.Needs.{needs}
 use Rattle.mac16.proofs.shift.Statement.{statement}
 use Rattle.mac16.proofs.shift.Tie as tie
-use Rattle.mac16.proofs.shift.Reads as reads
-use Rattle.mac16.proofs.shift.Lts as lts
-use Rattle.operand.proofs.field.Reads as field-reads
 
 -- src/lib.rt:104:5
 field-requires : tie.Need-field-requires

@@ -6,10 +6,6 @@ use Rattle.mac16.proofs.Sides.{same-all, side-skipped, side-lanes}
 use borrow.Author.Needs.{needs}
 use Rattle.mac16.proofs.side_of.Statement.{statement}
 use Rattle.mac16.proofs.side_of.Tie as tie
-use Rattle.mac16.proofs.side_of.Reads as reads
-use Rattle.mac16.proofs.side_of.Lts as lts
-use Rattle.mac16.proofs.lanes16.Reads as lanes16-reads
-use Rattle.mac16.proofs.lanes8.Reads as lanes8-reads
 
 -- src/lib.rt:46:9
 returns : tie.Need-returns

@@ -2,21 +2,16 @@ use borrow.Author.Needs.{needs}
 use Rattle.mac16.specs.Products.{split}
 use Rattle.number.proofs.Fill.{Filled, fill-more, fill-all}
 use native.Mathlib.Nat.{not-suc-le-zero}
-use mathlib.Core.List.{List}
-use mathlib.Core.Bool.{Bool, true, false, cond}
-use lib.IntN.{ℤ, pos}
-use lib.ListN.{length, getD, length-set, replicate}
-use Prim.Native.Nat.{ℕ, _+_, _*_, _-_, _/_, _%_, _≤_}
-use mir.Val.{toZ, ofZ}
-use mir.Syntax.{w16, w64}
+use lib.IntN.{pos}
+use lib.ListN.{length, getD, length-set}
+use Prim.Native.Nat.{_+_, _*_, _-_, _/_, _%_, _≤_}
+use mir.Syntax.{w16}
 use mir.Facts.{toZ-ofZ}
 use borrow.Author.Needs.{sfits-of}
 use native.Mathlib.Omega.{arith}
-use mathlib.Core.Path.{_≡_, refl, sym, ap, ap₂, _∙_}
+use mathlib.Core.Path.{_≡_, refl}
 use Rattle.mac16.proofs.split_lanes.Statement.{statement}
 use Rattle.mac16.proofs.split_lanes.Tie as tie
-use Rattle.mac16.proofs.split_lanes.Reads as reads
-use Rattle.mac16.proofs.split_lanes.Lts as lts
 
 abbrev Inv-loop : tie.InvT-loop
 Inv-loop xs out₀ k₀ out k = (k ≤ 32) × (length out ≡ 32) × Filled (pos 0) (λ i. getD xs (2 * (i % 16) + i / 16) (pos 0)) out k

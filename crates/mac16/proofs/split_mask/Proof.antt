@@ -2,21 +2,13 @@ use borrow.Author.Needs.{needs}
 use Rattle.mac16.specs.Products.{split}
 use Rattle.number.proofs.Fill.{Filled, fill-more, fill-all}
 use native.Mathlib.Nat.{not-suc-le-zero}
-use mathlib.Core.List.{List}
-use mathlib.Core.Bool.{Bool, true, false, cond}
-use lib.IntN.{ℤ, pos}
-use lib.ListN.{length, getD, length-set, replicate}
-use Prim.Native.Nat.{ℕ, _+_, _*_, _-_, _/_, _%_, _≤_}
-use mir.Val.{toZ, ofZ}
-use mir.Syntax.{w16, w64}
-use mir.Facts.{toZ-ofZ}
-use borrow.Author.Needs.{sfits-of}
+use mathlib.Core.Bool.{false}
+use lib.ListN.{length, getD, length-set}
+use Prim.Native.Nat.{_+_, _*_, _-_, _/_, _%_, _≤_}
 use native.Mathlib.Omega.{arith}
-use mathlib.Core.Path.{_≡_, refl, sym, ap, ap₂, _∙_}
+use mathlib.Core.Path.{_≡_, refl}
 use Rattle.mac16.proofs.split_mask.Statement.{statement}
 use Rattle.mac16.proofs.split_mask.Tie as tie
-use Rattle.mac16.proofs.split_mask.Reads as reads
-use Rattle.mac16.proofs.split_mask.Lts as lts
 
 abbrev Inv-loop : tie.InvT-loop
 Inv-loop on out₀ k₀ out k = (k ≤ 32) × (length out ≡ 32) × Filled false (λ i. getD on (2 * (i % 16) + i / 16) false) out k

@@ -3,16 +3,10 @@ use Rattle.isa.specs.Mac16 as Mac16
 use Rattle.number.proofs.Tests.{pick-true, pick-false}
 use borrow.Author.Tests.{ne-eqb}
 use lib.ListN.{length}
-use mathlib.Core.Path.{_≡_, refl, sym, ap, _∙_}
+use mathlib.Core.Path.{sym, _∙_}
 use borrow.Author.Needs.{needs}
 use Rattle.mac16.proofs.step.Statement.{statement}
 use Rattle.mac16.proofs.step.Tie as tie
-use Rattle.mac16.proofs.step.Reads as reads
-use Rattle.mac16.proofs.step.Lts as lts
-use Rattle.mac16.proofs.matrix16_step.Reads as matrix16-step-reads
-use Rattle.mac16.proofs.matrix32_step.Reads as matrix32-step-reads
-use Rattle.mac16.proofs.vector_step.Reads as vector-step-reads
-use Rattle.operand.proofs.flag.Reads as flag-reads
 
 -- src/lib.rt:294:9
 returns : tie.Need-returns

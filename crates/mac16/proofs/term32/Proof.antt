@@ -1,19 +1,13 @@
 use Rattle.mac16.specs.Products.{term}
 use Rattle.number.specs.Integers.{wrap, _≫_}
-use lib.IntN.{ℤ, _*ℤ_}
+use lib.IntN.{ℤ}
 use Prim.Native.Nat.{_%_, _^_}
-use mir.Syntax.{w16, w64}
 use mir.Facts.{toZ-ofZ}
 use borrow.Author.Needs.{sfits-of}
-use mathlib.Core.Path.{_≡_, refl, sym, ap, ap₂, _∙_}
+use mathlib.Core.Path.{ap, ap₂, _∙_}
 use borrow.Author.Needs.{needs}
 use Rattle.mac16.proofs.term32.Statement.{statement}
 use Rattle.mac16.proofs.term32.Tie as tie
-use Rattle.mac16.proofs.term32.Reads as reads
-use Rattle.mac16.proofs.term32.Lts as lts
-use Rattle.number.proofs.product16.Reads as product16-reads
-use Rattle.number.proofs.shifted.Reads as shifted-reads
-use Rattle.number.proofs.wrapped32.Reads as wrapped32-reads
 
 -- src/lib.rt:64:39
 product16-requires : tie.Need-product16-requires

@@ -1,21 +1,17 @@
 use borrow.Author.Needs.{needs}
 use Rattle.mac16.specs.Products.{term, rowTerms}
 use Rattle.number.proofs.Fill.{Filled, fill-more, fill-all}
-use lib.IntN.{ℤ, pos}
+use lib.IntN.{pos}
 use native.Mathlib.Nat.{not-suc-le-zero}
 use lib.ListN.{length, getD, length-set}
-use Prim.Native.Nat.{ℕ, _-_, _%_, _≤_}
-use mir.Val.{toZ, ofZ}
-use mir.Syntax.{w16, w64}
+use Prim.Native.Nat.{_-_, _%_, _≤_}
+use mir.Syntax.{w16}
 use mir.Facts.{toZ-ofZ}
 use borrow.Author.Needs.{sfits-of}
 use native.Mathlib.Omega.{arith}
-use mathlib.Core.Path.{_≡_, refl, sym, ap, ap₂, _∙_}
+use mathlib.Core.Path.{_≡_, refl, ap₂, _∙_}
 use Rattle.mac16.proofs.terms16.Statement.{statement}
 use Rattle.mac16.proofs.terms16.Tie as tie
-use Rattle.mac16.proofs.terms16.Reads as reads
-use Rattle.mac16.proofs.terms16.Lts as lts
-use Rattle.mac16.proofs.term16.Reads as term16-reads
 
 abbrev Inv-loop : tie.InvT-loop
 Inv-loop xs ys s out₀ i₀ out i = (i ≤ 32) × (length out ≡ 32) × Filled 0 (λ k. term 2 (s % 32) (getD xs k (pos 0)) (getD ys k (pos 0))) out i

@@ -2,16 +2,6 @@ use Rattle.mac16.proofs.Whole.{vector-is, vector-count}
 use borrow.Author.Needs.{needs}
 use Rattle.mac16.proofs.vector_step.Statement.{statement}
 use Rattle.mac16.proofs.vector_step.Tie as tie
-use Rattle.mac16.proofs.vector_step.Reads as reads
-use Rattle.mac16.proofs.vector_step.Lts as lts
-use Rattle.mac16.proofs.keeps_z.Reads as keeps-z-reads
-use Rattle.mac16.proofs.row16.Reads as row16-reads
-use Rattle.mac16.proofs.shift.Reads as shift-reads
-use Rattle.mac16.proofs.x_factors.Reads as x-factors-reads
-use Rattle.mac16.proofs.x_mask.Reads as x-mask-reads
-use Rattle.mac16.proofs.y_factors.Reads as y-factors-reads
-use Rattle.mac16.proofs.z_row.Reads as z-row-reads
-use Rattle.operand.proofs.count32.Reads as count32-reads
 
 -- src/lib.rt:257:14
 x-mask-requires : tie.Need-x-mask-requires

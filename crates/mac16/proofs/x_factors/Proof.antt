@@ -3,10 +3,6 @@ use Rattle.mac16.specs.Products.{masked}
 use borrow.Author.Needs.{needs}
 use Rattle.mac16.proofs.x_factors.Statement.{statement}
 use Rattle.mac16.proofs.x_factors.Tie as tie
-use Rattle.mac16.proofs.x_factors.Reads as reads
-use Rattle.mac16.proofs.x_factors.Lts as lts
-use Rattle.mac16.proofs.masked_by.Reads as masked-by-reads
-use Rattle.mac16.proofs.x_side.Reads as x-side-reads
 
 -- src/lib.rt:158:14
 x-side-requires : tie.Need-x-side-requires

@@ -1,14 +1,10 @@
 use Rattle.isa.specs.Enable.{mac16Enables}
 use Rattle.number.specs.Bytes.{table}
 use Prim.Native.Nat.{ℕ}
-use mathlib.Core.Path.{_≡_, refl, sym, ap, ap₂, _∙_}
+use mathlib.Core.Path.{ap₂, _∙_}
 use borrow.Author.Needs.{needs}
 use Rattle.mac16.proofs.x_mask.Statement.{statement}
 use Rattle.mac16.proofs.x_mask.Tie as tie
-use Rattle.mac16.proofs.x_mask.Reads as reads
-use Rattle.mac16.proofs.x_mask.Lts as lts
-use Rattle.operand.proofs.field.Reads as field-reads
-use Rattle.operand.proofs.mac16_mask.Reads as mac16-mask-reads
 
 -- src/lib.rt:92:25
 field-requires : tie.Need-field-requires

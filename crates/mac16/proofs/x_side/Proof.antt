@@ -4,13 +4,6 @@ use Rattle.mac16.proofs.Sides.{x-side-is}
 use borrow.Author.Needs.{needs}
 use Rattle.mac16.proofs.x_side.Statement.{statement}
 use Rattle.mac16.proofs.x_side.Tie as tie
-use Rattle.mac16.proofs.x_side.Reads as reads
-use Rattle.mac16.proofs.x_side.Lts as lts
-use Rattle.mac16.proofs.other_than_x.Reads as other-than-x-reads
-use Rattle.mac16.proofs.side_of.Reads as side-of-reads
-use Rattle.operand.proofs.field.Reads as field-reads
-use Rattle.operand.proofs.flag.Reads as flag-reads
-use Rattle.state.proofs.load.Reads as load-reads
 
 -- src/lib.rt:146:43
 field-requires : tie.Need-field-requires

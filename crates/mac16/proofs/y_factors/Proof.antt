@@ -2,12 +2,6 @@ use Rattle.mac16.proofs.Sides.{y-factors-are}
 use borrow.Author.Needs.{needs}
 use Rattle.mac16.proofs.y_factors.Statement.{statement}
 use Rattle.mac16.proofs.y_factors.Tie as tie
-use Rattle.mac16.proofs.y_factors.Reads as reads
-use Rattle.mac16.proofs.y_factors.Lts as lts
-use Rattle.mac16.proofs.side_of.Reads as side-of-reads
-use Rattle.operand.proofs.field.Reads as field-reads
-use Rattle.operand.proofs.flag.Reads as flag-reads
-use Rattle.state.proofs.load.Reads as load-reads
 
 -- src/lib.rt:153:42
 field-requires : tie.Need-field-requires

@@ -3,9 +3,6 @@ use native.Mathlib.Omega.{arith}
 use borrow.Author.Needs.{needs}
 use Rattle.mac16.proofs.z_row.Statement.{statement}
 use Rattle.mac16.proofs.z_row.Tie as tie
-use Rattle.mac16.proofs.z_row.Reads as reads
-use Rattle.mac16.proofs.z_row.Lts as lts
-use Rattle.operand.proofs.field.Reads as field-reads
 
 -- src/lib.rt:110:5
 field-requires : tie.Need-field-requires

@@ -1,16 +1,9 @@
 use Rattle.number.proofs.Range.{widened, mag-mul}
-use lib.Signed.{mag}
-use lib.IntN.{_+ℤ_, _*ℤ_}
-use Prim.Native.Nat.{_<_, _^_}
-use mir.Val.{SFits}
-use mir.Syntax.{w16, w32, w64}
+use mir.Syntax.{w32, w64}
 use mir.Facts.{toZ-ofZ, sfits-widen}
 use native.Mathlib.Omega.{arith}
-use mathlib.Core.Path.{_≡_, refl, sym, ap, _∙_}
 use Rattle.number.proofs.product.Statement.{statement}
 use Rattle.number.proofs.product.Tie as tie
-use Rattle.number.proofs.product.Reads as reads
-use Rattle.number.proofs.product.Lts as lts
 
 -- src/lib.rt:121:5
 cast-result : tie.Need-cast-result

@@ -1,16 +1,9 @@
 use Rattle.number.proofs.Range.{widened, mag-add}
-use lib.Signed.{mag}
-use lib.IntN.{_+ℤ_, _*ℤ_}
-use Prim.Native.Nat.{_<_, _^_}
-use mir.Val.{SFits}
-use mir.Syntax.{w16, w32, w64}
+use mir.Syntax.{w32, w64}
 use mir.Facts.{toZ-ofZ, sfits-widen}
 use native.Mathlib.Omega.{arith}
-use mathlib.Core.Path.{_≡_, refl, sym, ap, _∙_}
 use Rattle.number.proofs.sum.Statement.{statement}
 use Rattle.number.proofs.sum.Tie as tie
-use Rattle.number.proofs.sum.Reads as reads
-use Rattle.number.proofs.sum.Lts as lts
 
 -- src/lib.rt:127:5
 cast-result : tie.Need-cast-result

@@ -1,8 +1,6 @@
-use borrow.Author.Tests.{eq-eqb, ne-eqb, le-leb}
+use borrow.Author.Tests.{eq-eqb, ne-eqb}
 use Rattle.operand.proofs.by_parity.Statement.{statement}
 use Rattle.operand.proofs.by_parity.Tie as tie
-use Rattle.operand.proofs.by_parity.Reads as reads
-use Rattle.operand.proofs.by_parity.Lts as lts
 
 -- src/lib.rt:44:9
 returns : tie.Need-returns

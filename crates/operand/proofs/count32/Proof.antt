@@ -2,15 +2,12 @@ use borrow.Author.Needs.{needs}
 use Rattle.operand.proofs.Lanes.{count-none, count-more}
 use Rattle.isa.specs.Effect.{count}
 use mathlib.Core.Bool.{false}
-use lib.ListN.{length, getD, length-set}
-use Prim.Native.Nat.{ℕ, _-_, _≤_}
+use lib.ListN.{getD}
+use Prim.Native.Nat.{_-_, _≤_}
 use native.Mathlib.Omega.{arith}
-use mathlib.Core.Path.{_≡_, refl, sym, ap, _∙_}
+use mathlib.Core.Path.{_≡_, ap, _∙_}
 use Rattle.operand.proofs.count32.Statement.{statement}
 use Rattle.operand.proofs.count32.Tie as tie
-use Rattle.operand.proofs.count32.Reads as reads
-use Rattle.operand.proofs.count32.Lts as lts
-use Rattle.operand.proofs.one_if.Reads as one-if-reads
 
 abbrev Inv-loop : tie.InvT-loop
 Inv-loop on n₀ i₀ n i = (i ≤ 32) × (n ≤ i) × (n ≡ count (λ k. getD on k false) i)

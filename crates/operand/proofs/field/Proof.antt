@@ -3,8 +3,6 @@ use native.Mathlib.Omega.{arith}
 use borrow.Author.Needs.{needs}
 use Rattle.operand.proofs.field.Statement.{statement}
 use Rattle.operand.proofs.field.Tie as tie
-use Rattle.operand.proofs.field.Reads as reads
-use Rattle.operand.proofs.field.Lts as lts
 
 -- src/lib.rt:19:9
 returns : tie.Need-returns

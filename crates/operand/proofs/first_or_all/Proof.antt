@@ -1,8 +1,6 @@
-use borrow.Author.Tests.{eq-eqb, ne-eqb, le-leb}
+use borrow.Author.Tests.{eq-eqb, ne-eqb}
 use Rattle.operand.proofs.first_or_all.Statement.{statement}
 use Rattle.operand.proofs.first_or_all.Tie as tie
-use Rattle.operand.proofs.first_or_all.Reads as reads
-use Rattle.operand.proofs.first_or_all.Lts as lts
 
 -- src/lib.rt:59:9
 returns : tie.Need-returns

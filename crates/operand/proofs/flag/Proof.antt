@@ -1,12 +1,9 @@
 use lib.Dec.{eqb}
 use Prim.Native.Nat.{ℕ}
-use mathlib.Core.Path.{_≡_, refl, sym, ap, _∙_}
+use mathlib.Core.Path.{ap}
 use borrow.Author.Needs.{needs}
 use Rattle.operand.proofs.flag.Statement.{statement}
 use Rattle.operand.proofs.flag.Tie as tie
-use Rattle.operand.proofs.flag.Reads as reads
-use Rattle.operand.proofs.flag.Lts as lts
-use Rattle.operand.proofs.field.Reads as field-reads
 
 -- src/lib.rt:34:5
 field-requires : tie.Need-field-requires

@@ -1,13 +1,11 @@
 use Rattle.operand.proofs.Lanes.{last-by-difference}
 use Prim.Native.Nat.{_+_}
-use borrow.Author.Tests.{eq-eqb, ne-eqb, le-leb}
+use borrow.Author.Tests.{le-leb}
 use native.Mathlib.Omega.{arith}
-use mathlib.Core.Path.{_≡_, refl, sym, ap, _∙_}
+use mathlib.Core.Path.{sym}
 use borrow.Author.Needs.{needs}
 use Rattle.operand.proofs.last.Statement.{statement}
 use Rattle.operand.proofs.last.Tie as tie
-use Rattle.operand.proofs.last.Reads as reads
-use Rattle.operand.proofs.last.Lts as lts
 
 -- src/lib.rt:68:9
 returns : tie.Need-returns

@@ -1,10 +1,7 @@
-use borrow.Author.Tests.{eq-eqb, ne-eqb, le-leb}
+use borrow.Author.Tests.{eq-eqb, ne-eqb}
 use borrow.Author.Needs.{needs}
 use Rattle.operand.proofs.last_or_all.Statement.{statement}
 use Rattle.operand.proofs.last_or_all.Tie as tie
-use Rattle.operand.proofs.last_or_all.Reads as reads
-use Rattle.operand.proofs.last_or_all.Lts as lts
-use Rattle.operand.proofs.last.Reads as last-reads
 
 -- src/lib.rt:77:9
 returns : tie.Need-returns

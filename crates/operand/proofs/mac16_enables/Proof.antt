@@ -1,13 +1,8 @@
 use Rattle.isa.specs.Enable.{mac16Enables}
-use borrow.Author.Tests.{eq-eqb, ne-eqb, le-leb}
+use borrow.Author.Tests.{eq-eqb, ne-eqb}
 use borrow.Author.Needs.{needs}
 use Rattle.operand.proofs.mac16_enables.Statement.{statement}
 use Rattle.operand.proofs.mac16_enables.Tie as tie
-use Rattle.operand.proofs.mac16_enables.Reads as reads
-use Rattle.operand.proofs.mac16_enables.Lts as lts
-use Rattle.operand.proofs.by_parity.Reads as by-parity-reads
-use Rattle.operand.proofs.first_or_all.Reads as first-or-all-reads
-use Rattle.operand.proofs.last_or_all.Reads as last-or-all-reads
 
 -- src/lib.rt:87:9
 by-parity-requires : tie.Need-by-parity-requires

@@ -3,15 +3,12 @@ use borrow.Author.Needs.{needs}
 use Rattle.isa.specs.Enable.{mac16Enables}
 use Rattle.number.proofs.Fill.{Filled, fill-more, fill-all}
 use mathlib.Core.Bool.{false}
-use lib.ListN.{length, getD, length-set}
-use Prim.Native.Nat.{ℕ, _-_, _≤_}
+use lib.ListN.{length, length-set}
+use Prim.Native.Nat.{_-_, _≤_}
 use native.Mathlib.Omega.{arith}
-use mathlib.Core.Path.{_≡_, refl, sym, ap, _∙_}
+use mathlib.Core.Path.{_≡_, refl}
 use Rattle.operand.proofs.mac16_mask.Statement.{statement}
 use Rattle.operand.proofs.mac16_mask.Tie as tie
-use Rattle.operand.proofs.mac16_mask.Reads as reads
-use Rattle.operand.proofs.mac16_mask.Lts as lts
-use Rattle.operand.proofs.mac16_enables.Reads as mac16-enables-reads
 
 abbrev Inv-loop : tie.InvT-loop
 Inv-loop mode n out₀ i₀ out i = (i ≤ 32) × (length out ≡ 32) × Filled false (mac16Enables mode n) out i
