@@ -3,7 +3,7 @@
 use mathlib.Core.Path.{_≡_, refl, sym, ap, _∙_}
 use mathlib.Core.Bool.{Bool, true, false, cond}
 use Prim.Native.Nat.{ℕ, suc, _+_, _-_, _*_, _/_, _%_, _≤_, _<_}
-use native.Mathlib.Nat.{mod-lt, div-add-mod', mod-add-mod, add-mod, add-mod-right, mod-mod, mod-eq-of-lt, add-mul-mod-self-right, mul-add-mod-self-right, add-comm, zero-mod}
+use native.Mathlib.Nat.{mod-lt, div-add-mod', mod-add-mod, add-mod, add-mod-right, mod-mod, mod-eq-of-lt, add-mul-mod-self-right, mul-add-mod-self-right, add-comm, zero-mod, zero-add}
 use native.Mathlib.Omega.{arith}
 use borrow.Author.Tests.{ltb-true, ltb-false}
 use lib.Dec.{ltb}
@@ -93,6 +93,18 @@ adds-modulo b z v =
     wrap-add (span b) (pow-pos (8 * b)) (signed b z) v
     ∙ ap (λ (t : ℕ). (t + wrap (span b) v) % span b) (wrap-signed b z)
     ∙ mod-add-mod z (span b) (wrap (span b) v)
+
+-- what is left of a lane when what is kept of v is taken from it, modulo 2 to the width
+pub takes-modulo : (b z r : ℕ) (v : ℤ) → r < span b → (r + wrap (span b) v) % span b ≡ z → r ≡ wrap (span b) (signed b z +ℤ negℤ v)
+takes-modulo b z r v h e =
+    let m : ℕ = span b in
+    let zero-sum : (wrap m (negℤ v) + wrap m v) % m ≡ 0 = sym (wrap-add m (pow-pos (8 * b)) (negℤ v) v) ∙ ap (wrap m) (+ℤ-invl v) ∙ zero-mod m in
+    let back : z + wrap m (negℤ v) + wrap m v ≡ wrap m (negℤ v) + wrap m v + z = omega arith in
+    let small : z % m ≡ z = ap (λ (t : ℕ). t % m) (sym e) ∙ mod-mod (r + wrap m v) m ∙ e in
+    sym (mod-eq-of-lt h)
+    ∙ cancel m (pow-pos (8 * b)) r (z + wrap m (negℤ v)) (wrap m v)
+    (e ∙ sym small ∙ sym (ap (λ (t : ℕ). t % m) back ∙ sym (mod-add-mod (wrap m (negℤ v) + wrap m v) m z) ∙ ap (λ (t : ℕ). (t + z) % m) zero-sum ∙ ap (λ (t : ℕ). t % m) (zero-add z)))
+    ∙ sym (adds-modulo b z (negℤ v))
 
 -- sums modulo m swap
 swap-mod : (m z u v : ℕ) → ((z + u) % m + v) % m ≡ ((z + v) % m + u) % m

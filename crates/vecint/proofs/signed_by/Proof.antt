@@ -1,0 +1,30 @@
+use mathlib.Core.Path.{refl, sym, ap, ap₂, _∙_}
+use native.Mathlib.Omega.{arith}
+use mir.Facts.{toZ-ofZ}
+use mir.Syntax.{w16, w64}
+use borrow.Author.Needs.{sfits-of}
+use lib.IntN.{ℤ, pos, negsuc, negℤ, _+ℤ_}
+use Rattle.number.specs.Bytes.{span, byteAt, number, bytesOf}
+use Rattle.number.specs.Integers.{signed, wrap, kept, clamp}
+use Rattle.number.proofs.Tests.{pick-true, pick-false}
+use borrow.Author.Needs.{needs}
+use Rattle.vecint.proofs.signed_by.Statement.{statement}
+use Rattle.vecint.proofs.signed_by.Tie as tie
+use Rattle.vecint.proofs.signed_by.Reads as reads
+use Rattle.vecint.proofs.signed_by.Lts as lts
+use Rattle.number.proofs.negated.Reads as negated-reads
+
+-- src/lib.rt:52:18
+negated-requires : tie.Need-negated-requires
+negated-requires c κs = search needs
+
+-- src/lib.rt:49:1
+returns : tie.Need-returns
+returns c = toZ-ofZ (sfits-of (c .negated .ok)) ∙ c .negated .ensures ∙ ap (λ (x : ℤ). kept 8 (negℤ x)) (toZ-ofZ (c .before .before .fits .t)) ∙ sym (pick-true _ _ (c .before .if1 .taken))
+
+-- src/lib.rt:49:1
+returns-2 : tie.Need-returns-2
+returns-2 c = toZ-ofZ (c .before .fits .t) ∙ sym (pick-false _ _ (c .if1 .left))
+
+pub signed-by-spec : {M : Type 1} → statement M
+signed-by-spec = tie.close (tie.spec negated-requires returns returns-2)

@@ -1,0 +1,62 @@
+-- What the code does to rows of Z, as effects.
+-- Assumes nothing.
+use mathlib.Core.Bool.{Bool, false, cond, _&&_}
+use mathlib.Core.List.{List}
+use Prim.Native.Nat.{ℕ, _+_, _-_, _*_}
+use lib.IntN.{ℤ, pos, negℤ, _+ℤ_}
+use lib.ListN.{getD}
+use lib.Seq.{sets}
+use Rattle.number.specs.Bytes.{span, byteAt, number, bytesOf}
+use Rattle.number.specs.Integers.{signed, wrap, kept, clampSigned}
+use Rattle.isa.specs.Effect.{Effect}
+use Rattle.state.specs.Rows.{among}
+use Rattle.vecint.specs.declared.Accumulate.{Accumulate}
+
+-- One row: lane l, where it is on, receives what is made of its place and its old number.
+abbrev pub oneRow : ℕ → ℕ → (ℕ → Bool) → (ℕ → ℕ → ℕ) → Effect
+oneRow b row on new = record {
+  width = b;
+  on = λ r l. among row 1 r && on l;
+  new = λ xy r l z. new l z;
+  adds = false;
+}
+
+-- The c rows that a vector's lanes are dealt to, from a row on: lane l of row base + q is lane k = l c + q of the vector.
+abbrev pub dealt : ℕ → ℕ → ℕ → (ℕ → Bool) → (ℕ → ℕ → ℕ) → Effect
+dealt b base c on new = record {
+  width = b;
+  on = λ r l. among base c r && on (l * c + (r - base));
+  new = λ xy r l z. new (l * c + (r - base)) z;
+  adds = false;
+}
+
+-- ---- the lanes of all modes but 4
+
+-- bytes of a Z lane, and lanes in a row
+abbrev pub zBytes : Bool → ℕ
+zBytes wide = cond wide 4 2
+
+abbrev pub zLanes : Bool → ℕ
+zLanes wide = cond wide 16 32
+
+-- a term, added to old Z, negated or not, or in its place
+unfoldable pub summed : Accumulate → ℤ → ℤ → ℤ
+summed how z t = cond (how .keeps) (z +ℤ cond (how .negates) (negℤ t) t) t
+
+-- the same in an i64, clamped to 16 bits
+unfoldable pub clampedSum : Accumulate → ℤ → ℤ → ℤ
+clampedSum how z t = clampSigned 2 (cond (how .keeps) (kept 8 (z +ℤ cond (how .negates) (kept 8 (negℤ t)) t)) t)
+
+-- 16-bit lanes may be clamped
+unfoldable pub accumulated : Bool → Accumulate → ℤ → ℤ → ℤ
+accumulated wide how z t = cond wide (summed how z t) (cond (how .clamps) (clampedSum how z t) (summed how z t))
+
+-- a state with the lane at a position so: the old number where it is off
+abbrev pub laneStored : Bool → Accumulate → List ℕ → ℕ → ℤ → Bool → List ℕ
+laneStored wide how s at t on =
+    let z : ℕ = number (zBytes wide) (byteAt s) at in
+    sets s at (bytesOf (zBytes wide) (cond on (wrap (span (zBytes wide)) (accumulated wide how (signed (zBytes wide) z) t)) z))
+
+-- the number that lane k receives
+abbrev pub accumulate : Bool → Accumulate → List ℤ → ℕ → ℕ → ℕ
+accumulate wide how terms k z = wrap (span (zBytes wide)) (accumulated wide how (signed (zBytes wide) z) (getD terms k (pos 0)))
