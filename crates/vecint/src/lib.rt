@@ -1,0 +1,1 @@
+// vecint on a lent state: its laws, for now.
