@@ -16,7 +16,7 @@ B = target/bench
 bench:
 	rt staticlib amx
 	mkdir -p $B
-	$(CC) -O3 -DNAME=mac16_baseline -c bench/mac16.c -o $B/baseline.o
-	$(CC) -O3 -march=native -DNAME=mac16_native -c bench/mac16.c -o $B/native.o
+	$(CC) -O3 -DNAME=unit_baseline -c bench/unit.c -o $B/baseline.o
+	$(CC) -O3 -march=native -DNAME=unit_native -c bench/unit.c -o $B/native.o
 	$(CC) -O2 bench/main.c $B/baseline.o $B/native.o target/staticlib/libamx.a -o $B/bench
 	$B/bench

@@ -1,5 +1,5 @@
 // The proved unit against the C version, built for the baseline target and for this machine, in one run.
-// First both do the same random steps, and every byte and count is compared; then each form is timed with all lanes enabled.
+// First all do the same random steps, and every answer and byte is compared; then forms of both instructions are timed, and a mixed list.
 // The buffers start equal and are not cleared between the runs. Ratios are of medians of interleaved runs; below 1 the proved unit is faster.
 #include <stdint.h>
 #include <stdio.h>
@@ -7,12 +7,15 @@
 #include <string.h>
 #include <time.h>
 
-typedef uint64_t step(uint8_t *state, uint64_t length, uint64_t operand);
-step mac16_baseline, mac16_native, amx_mac16;
+typedef uint64_t step(uint8_t *state, uint64_t length, uint64_t instruction, uint64_t generation, uint64_t operand);
+step amx_step, unit_baseline, unit_native;
 
-enum { LENGTH = 5120, VERSIONS = 3, RUNS = 61, RANDOM_STEPS = 200000 };
-static step *const version[VERSIONS] = {amx_mac16, mac16_baseline, mac16_native};
-static uint8_t state[VERSIONS][LENGTH];
+struct call { uint64_t length, instruction, generation, operand; };
+
+enum { LENGTH = 5120, ROOM = LENGTH + 64, VERSIONS = 3, RUNS = 61, RANDOM_STEPS = 1000000, MIXED = 4000, OFFSETS = 7 };
+enum { MAC16 = 14, VECINT = 18, NO_OP = 65536, REFUSED = 131072 };
+static step *const version[VERSIONS] = {amx_step, unit_baseline, unit_native};
+static uint8_t state[VERSIONS][ROOM];
 
 static uint64_t seed = 1;
 static uint64_t next(void) {
@@ -20,27 +23,64 @@ static uint64_t next(void) {
     seed ^= seed >> 7;
     return seed ^= seed << 17;
 }
+static uint64_t below(uint64_t n) { return (next() >> 20) % n; }
+static uint64_t put(uint64_t operand, int first, int last, uint64_t value) {
+    uint64_t ones = (2ull << (last - first)) - 1;
+    return (operand & ~(ones << first)) | value << first;
+}
 
-static void fill(void) {
-    for (int i = 0; i < LENGTH; i++) {
-        uint8_t byte = next() >> 24;
+// random bytes, or the bytes of numbers at the ends of their ranges
+static void fill(int ends) {
+    static const uint8_t end[8] = {0, 0, 1, 0x7f, 0x80, 0xfe, 0xff, 0xff};
+    for (int i = 0; i < ROOM; i++) {
+        uint8_t byte = ends ? end[below(8)] : below(256);
         for (int v = 0; v < VERSIONS; v++) state[v][i] = byte;
     }
 }
 
+// an operand that vecint mostly does, with the modes and enables that have a meaning of their own drawn more often than others
+static uint64_t vecint_operand(void) {
+    uint64_t mode = below(13), operand = put(put(next(), 53, 56, 0), 47, 52, mode);
+    if (mode != 4) operand = put(operand, 27, 30, 0);
+    if (below(2)) operand = put(operand, 32, 37, below(8));
+    if (below(3) == 0) operand = put(operand, 38, 40, 0);
+    if (below(3) == 0) operand = put(operand, 58, 62, below(2) * 15);
+    return operand;
+}
+
+static struct call draw(void) {
+    static const uint64_t instruction[] = {0, 13, 15, 17, 19, (1ull << 32) + MAC16, (1ull << 8) + VECINT};
+    static const uint64_t generation[] = {0, 3, 4, (1ull << 32) + 1, (1ull << 8) + 2};
+    struct call c = {LENGTH, below(3) ? VECINT : MAC16, 1 + below(2), next()};
+    if (c.instruction == VECINT && below(16)) c.operand = vecint_operand();
+    if (below(64) == 0) c.instruction = below(8) ? instruction[below(7)] : next();
+    if (below(64) == 0) c.generation = below(8) ? generation[below(5)] : next();
+    if (below(64) == 0) c.length = below(2) ? below(ROOM) : LENGTH - 1 + 2 * below(2);
+    return c;
+}
+
+static uint64_t run(int v, struct call c) { return version[v](state[v], c.length, c.instruction, c.generation, c.operand); }
+
 static void compare(void) {
+    int done = 0, no_op[4] = {0}, refused[5] = {0};
     for (int n = 0; n < RANDOM_STEPS; n++) {
-        if (n % 64 == 0) fill();
-        uint64_t operand = next(), count[VERSIONS];
-        uint64_t length = n % 997 == 0 ? LENGTH - 1 : LENGTH;
-        for (int v = 0; v < VERSIONS; v++) count[v] = version[v](state[v], length, operand);
+        if (n % 64 == 0) fill(n / 64 % 2);
+        struct call c = draw();
+        uint64_t answer = run(0, c);
         for (int v = 1; v < VERSIONS; v++)
-            if (count[v] != count[0] || memcmp(state[v], state[0], LENGTH)) {
-                fprintf(stderr, "the versions differ at step %d, operand %016llx\n", n, (unsigned long long)operand);
+            if (run(v, c) != answer || memcmp(state[v], state[0], ROOM)) {
+                fprintf(stderr, "the versions differ at step %d: length %llu, instruction %llu, generation %llu, operand %016llx\n", n, (unsigned long long)c.length,
+                        (unsigned long long)c.instruction, (unsigned long long)c.generation, (unsigned long long)c.operand);
                 exit(1);
             }
+        if (answer < NO_OP) done++;
+        else if (answer < REFUSED) no_op[answer - NO_OP]++;
+        else refused[answer - REFUSED]++;
     }
-    printf("%d random steps: same bytes, same counts\n", RANDOM_STEPS);
+    printf("%d random steps: same bytes, same answers\ndone %d", RANDOM_STEPS, done);
+    for (int i = 1; i < 4; i++) printf(", no-op %d: %d", i, no_op[i]);
+    for (int i = 1; i < 5; i++) printf(", refused %d: %d", i, refused[i]);
+    printf("\n");
 }
 
 static double seconds(void) {
@@ -54,23 +94,54 @@ static int order(const void *a, const void *b) {
     return (x > y) - (x < y);
 }
 
-static void measure(const char *form, uint64_t operand, int steps) {
+static void measure(const char *form, const struct call *list, int length, int times) {
     static double time[VERSIONS][RUNS];
     for (int r = 0; r < RUNS; r++)
         for (int v = 0; v < VERSIONS; v++) {
             double start = seconds();
-            for (int n = 0; n < steps; n++) version[v](state[v], LENGTH, operand + (uint64_t)(n % 7 * 3) * 1024);
+            for (int t = 0; t < times; t++)
+                for (int n = 0; n < length; n++) run(v, list[n]);
             time[v][r] = seconds() - start;
         }
     for (int v = 0; v < VERSIONS; v++) qsort(time[v], RUNS, sizeof(double), order);
     double proved = time[0][RUNS / 2];
-    printf("%-10s %5.0f ns a step   ratio to C, baseline target: %.2f   native: %.2f\n", form, proved / steps * 1e9, proved / time[1][RUNS / 2], proved / time[2][RUNS / 2]);
+    printf("%-30s %5.0f ns a step   ratio to C, baseline target: %.2f   native: %.2f\n", form, proved / times / length * 1e9, proved / time[1][RUNS / 2], proved / time[2][RUNS / 2]);
+}
+
+// one operand, at several X offsets
+static void one(const char *form, uint64_t instruction, uint64_t operand, int times) {
+    struct call list[OFFSETS];
+    for (int n = 0; n < OFFSETS; n++) list[n] = (struct call){LENGTH, instruction, 2, put(operand, 10, 18, 3 * n)};
+    measure(form, list, OFFSETS, times);
+}
+
+static uint64_t vec(uint64_t mode, uint64_t width) { return 1ull << 63 | mode << 47 | width << 42 | 1ull << 26; }
+
+static void mixed(void) {
+    static struct call list[MIXED];
+    for (int n = 0; n < MIXED;) {
+        list[n] = draw();
+        if (run(1, list[n]) < NO_OP) n++;
+    }
+    fill(0);
+    measure("both, 4,000 mixed steps", list, MIXED, 1);
 }
 
 int main(void) {
     compare();
-    fill();
-    measure("matrix 16", 0, 4000);
-    measure("matrix 32", 1ull << 62, 2000);
-    measure("vector", 1ull << 63, 40000);
+    fill(0);
+    one("mac16, matrix 16", MAC16, 0, 600);
+    one("mac16, matrix 32", MAC16, 1ull << 62, 300);
+    one("mac16, vector", MAC16, 1ull << 63, 6000);
+    one("vecint, 16 16 16", VECINT, vec(0, 0), 6000);
+    one("vecint, 16 16 32", VECINT, vec(0, 3), 6000);
+    one("vecint, 8 8 32", VECINT, vec(0, 10), 3000);
+    one("vecint, 8 8 16", VECINT, vec(0, 11), 3000);
+    one("vecint, 16 16 16, four vectors", VECINT, vec(0, 0) | 1ull << 31 | 1ull << 25, 2000);
+    one("vecint, reducing 32 to 16", VECINT, vec(4, 3) | 7ull << 58 | 3ull << 29, 6000);
+    one("vecint, reducing 32 to 32", VECINT, vec(4, 4) | 7ull << 58 | 3ull << 29, 6000);
+    one("vecint, reducing 8 to 8", VECINT, vec(4, 9) | 7ull << 58 | 3ull << 29, 6000);
+    one("vecint, reducing 16 to 16", VECINT, vec(4, 0) | 7ull << 58 | 3ull << 29, 6000);
+    one("vecint, mode 5", VECINT, vec(5, 0), 6000);
+    mixed();
 }

@@ -1,19 +1,22 @@
--- The answer's number: the enabled lanes, counted over all of Z, and their bytes.
+-- Sums and counts, and the answer's number: the enabled lanes, counted over all of Z, and their bytes.
 -- Assumes nothing.
 use mathlib.Core.Path.{_≡_, refl, sym, ap, ap₂, _∙_}
-use mathlib.Core.Bool.{Bool, false, cond}
+use mathlib.Core.Bool.{Bool, true, false, cond, _&&_}
 use mathlib.Core.List.{List, [], _∷_}
+use mathlib.Core.Logic.{⊎-elim}
 use Prim.Native.Nat.{ℕ, zero, suc, _+_, _*_, _<_}
 use native.Mathlib.Nat.{add-zero, add-suc, suc-mul, mul-add, mul-comm, zero-mul, zero-add}
 use native.Mathlib.Omega.{arith}
+use lib.Dec.{eqb}
 use lib.ListN.{length}
+use borrow.Author.Tests.{ne-eqb, eqb-true, eqb-false}
 use Rattle.isa.specs.declared.Answer.the-variants.{Done}
 use Rattle.isa.specs.State.{lanesOf, start}
 use Rattle.isa.specs.Effect.{Effect, touches, sum, count, lanesOn}
 use Rattle.isa.specs.Call.{Call, effectOf}
 use Rattle.isa.specs.Answers.{Row, rowsAbove, firstOf, answerOf, isDone}
 use Rattle.isa.specs.Demands.{DoneCounted}
-use Rattle.number.proofs.Tests.{true-false, two, pick-true, pick-false}
+use Rattle.number.proofs.Tests.{true-false, two, pick-true, pick-false, lt-or-le}
 use Rattle.isa.proofs.Place.{lanes-fill, start-row, start-lane, start-in}
 use Rattle.isa.proofs.Applied.{not-xy, touches-in}
 use Rattle.isa.proofs.Lawful.{fills}
@@ -46,6 +49,48 @@ pub sum-groups : (f : ℕ → ℕ) (n m : ℕ) → sum f (n * m) ≡ sum (λ i. 
 unfolding sum
 sum-groups f zero m = ap (sum f) (zero-mul m)
 sum-groups f (suc n) m = ap (sum f) (suc-mul n m) ∙ sum-add f (n * m) m ∙ omega (arith, sum-groups f n m)
+
+pub none : (n : ℕ) → sum (λ k. 0) n ≡ 0
+none n = sum-const 0 n ∙ omega arith
+
+pub sum-plus : (f g : ℕ → ℕ) (n : ℕ) → sum (λ k. f k + g k) n ≡ sum f n + sum g n
+unfolding sum
+sum-plus f g zero = refl
+sum-plus f g (suc n) = omega (arith, sum-plus f g n)
+
+-- the order of two sums
+pub sum-swap : (f : ℕ → ℕ → ℕ) (m n : ℕ) → sum (λ i. sum (f i) n) m ≡ sum (λ j. sum (λ i. f i j) m) n
+unfolding sum
+sum-swap f zero n = sym (none n)
+sum-swap f (suc m) n = omega (arith, sum-swap f m n, sum-plus (f m) (λ j. sum (λ i. f i j) m) n)
+
+-- ---- under a condition
+
+-- a sum under a condition
+pub sum-if : (b : Bool) (f : ℕ → ℕ) (n : ℕ) → sum (λ k. cond b (f k) 0) n ≡ cond b (sum f n) 0
+sum-if true f n = refl
+sum-if false f n = none n
+
+-- lanes that a condition of the row governs
+pub count-if : (b : Bool) (f : ℕ → Bool) (n : ℕ) → count (λ l. b && f l) n ≡ cond b (count f n) 0
+count-if true f n = refl
+count-if false f n = none n
+
+-- one row of many
+pub sum-one : (c z n : ℕ) → z < n → sum (λ r. cond (eqb r z) c 0) n ≡ c
+unfolding sum
+sum-one c z zero h = omega arith
+sum-one c z (suc n) h =
+    two (eqb n z) (cond (eqb n z) c 0 + sum (λ r. cond (eqb r z) c 0) n ≡ c)
+    (λ t.
+    let last : n ≡ z = eqb-true n z t in
+    let others : sum (λ r. cond (eqb r z) c 0) n ≡ 0 =
+    sum-cong (λ r. cond (eqb r z) c 0) (λ r. 0) n (λ r l. pick-false _ _ (ne-eqb r z (λ e. omega (arith, e)))) ∙ none n
+    in
+    omega (arith, pick-true {b = eqb n z} c 0 t, others))
+    (λ t.
+    let before : z < n = ⊎-elim (λ less. less) (λ past. absurd (eqb-false n z t (omega arith))) (lt-or-le z n) in
+    omega (arith, pick-false {b = eqb n z} c 0 t, sum-one c z n before))
 
 -- ---- the bytes of the enabled lanes
 

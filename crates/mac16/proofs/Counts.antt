@@ -3,47 +3,20 @@
 use mathlib.Core.Path.{_≡_, refl, ap, _∙_}
 use mathlib.Core.Bool.{Bool, true, false, cond, _&&_}
 use mathlib.Core.List.{List}
-use mathlib.Core.Logic.{⊎-elim}
-use Prim.Native.Nat.{ℕ, zero, suc, _+_, _*_, _/_, _%_, _<_}
+use Prim.Native.Nat.{ℕ, _+_, _*_, _/_, _%_, _<_}
 use native.Mathlib.Nat.{zero-add}
 use native.Mathlib.Omega.{arith}
 use lib.Dec.{eqb}
 use lib.ListN.{getD}
-use borrow.Author.Tests.{ne-eqb, eqb-true, eqb-false}
 use Rattle.number.specs.Bytes.{table}
 use Rattle.number.proofs.Bytes.{getD-table}
-use Rattle.number.proofs.Tests.{two, pick-true, pick-false, lt-or-le}
 use Rattle.operand.proofs.Fields.{bits-lt}
 use Rattle.isa.specs.Effect.{sum, count, lanesOn}
 use Rattle.isa.specs.Mac16 as Mac16
 use Rattle.isa.specs.Mac16.{vector, matrix16, matrix32, xEnabled, yEnabled, zRow}
-use Rattle.isa.proofs.Count.{sum-cong, sum-const, sum-scale, sum-groups}
+use Rattle.isa.proofs.Count.{sum-cong, sum-scale, sum-groups, sum-plus, sum-if, sum-one, none, count-if}
 
 -- ---- counts under a condition
-
-none : (n : ℕ) → sum (λ k. 0) n ≡ 0
-none n = sum-const 0 n ∙ omega arith
-
--- lanes that a condition of the row governs
-pub count-if : (b : Bool) (f : ℕ → Bool) (n : ℕ) → count (λ l. b && f l) n ≡ cond b (count f n) 0
-count-if true f n = refl
-count-if false f n = none n
-
--- one row of many
-pub sum-one : (c z n : ℕ) → z < n → sum (λ r. cond (eqb r z) c 0) n ≡ c
-unfolding sum
-sum-one c z zero h = omega arith
-sum-one c z (suc n) h =
-    two (eqb n z) (cond (eqb n z) c 0 + sum (λ r. cond (eqb r z) c 0) n ≡ c)
-    (λ t.
-    let last : n ≡ z = eqb-true n z t in
-    let others : sum (λ r. cond (eqb r z) c 0) n ≡ 0 =
-    sum-cong (λ r. cond (eqb r z) c 0) (λ r. 0) n (λ r l. pick-false _ _ (ne-eqb r z (λ e. omega (arith, e)))) ∙ none n
-    in
-    omega (arith, pick-true {b = eqb n z} c 0 t, others))
-    (λ t.
-    let before : z < n = ⊎-elim (λ less. less) (λ past. absurd (eqb-false n z t (omega arith))) (lt-or-le z n) in
-    omega (arith, pick-false {b = eqb n z} c 0 t, sum-one c z n before))
 
 -- lanes that a condition before them and one behind them govern
 count-between : (a b : Bool) (f : ℕ → Bool) (n : ℕ) → count (λ l. a && (f l && b)) n ≡ cond (a && b) (count f n) 0
@@ -60,16 +33,6 @@ count-between true false f n =
     and-false : (t : Bool) → t && false ≡ false
     and-false true = refl
     and-false false = refl
-
-sum-plus : (f g : ℕ → ℕ) (n : ℕ) → sum (λ k. f k + g k) n ≡ sum f n + sum g n
-unfolding sum
-sum-plus f g zero = refl
-sum-plus f g (suc n) = omega (arith, sum-plus f g n)
-
--- a sum under a condition
-sum-if : (b : Bool) (f : ℕ → ℕ) (n : ℕ) → sum (λ k. cond b (f k) 0) n ≡ cond b (sum f n) 0
-sum-if true f n = refl
-sum-if false f n = none n
 
 -- the same count for each enabled lane of another mask
 each : (c : ℕ) (f : ℕ → Bool) (n : ℕ) → sum (λ k. cond (f k) c 0) n ≡ c * count f n

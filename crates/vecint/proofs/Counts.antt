@@ -1,0 +1,89 @@
+-- The enabled lanes, counted by the mask.
+-- Assumes nothing.
+use mathlib.Core.Path.{_≡_, sym, ap, ap₂, _∙_, subst}
+use mathlib.Core.Bool.{Bool, cond, _&&_, _||_}
+use Prim.Native.Nat.{ℕ, _+_, _*_, _/_, _%_, _<_}
+use native.Mathlib.Nat.{mod-lt, div-lt-iff-lt-mul, mul-div-cancel, mul-assoc, mul-comm, add-mul}
+use native.Mathlib.Omega.{arith}
+use lib.Arith.{digits-lt, digits-div, digits-mod}
+use lib.Dec.{eqb}
+use Rattle.isa.specs.State.{lanesOf}
+use Rattle.isa.specs.Effect.{sum, count, lanesOn}
+use Rattle.isa.specs.Vecint as Vecint
+use Rattle.isa.specs.Vecint.{several, masked, zRow, zWidth}
+use Rattle.isa.proofs.Count.{sum-cong, sum-const, sum-groups, sum-if, sum-one, sum-swap, count-if}
+use Rattle.isa.proofs.Place.{factor-pos}
+use Rattle.isa.proofs.Places.{Stride, stride, each}
+use Rattle.isa.proofs.NormalVecint.{rows-each}
+
+-- w strides make 64 rows, and m groups of r rows a stride; a lane is enabled where its row is in group g and f holds of its k
+module _ (w m r : ℕ) (hr : 0 < r) (all : w * (m * r) ≡ 64) (f : ℕ → Bool) (g : ℕ) (hg : g < m) (n : ℕ) where
+  -- the lanes that row q of a group takes
+  abbrev part : ℕ → ℕ
+  part q = count (λ l. f (l * r + q)) n
+
+  abbrev row : ℕ → ℕ
+  row p = cond (eqb (p % (m * r) / r) g) (part (p % r)) 0
+
+  -- row q of group i of vector v
+  at : (v i q : ℕ) → i < m → q < r → row (v * (m * r) + (i * r + q)) ≡ cond (eqb i g) (part q) 0
+  at v i q hi hq =
+      let in-groups : v * (m * r) + (i * r + q) ≡ (v * m + i) * r + q = omega (arith, add-mul (v * m) i r, mul-assoc v m r) in
+      let group : (v * (m * r) + (i * r + q)) % (m * r) / r ≡ i =
+      ap (λ (x : ℕ). x / r) (digits-mod v (digits-lt hi hq)) ∙ digits-div i hq
+      in
+      let place : (v * (m * r) + (i * r + q)) % r ≡ q = ap (λ (x : ℕ). x % r) in-groups ∙ digits-mod (v * m + i) hq in
+      ap₂ (λ (x y : ℕ). cond (eqb x g) (part y) 0) group place
+
+  -- the rows of a group take all lanes
+  parts : sum part r ≡ count f (r * n)
+  parts =
+      sum-swap (λ q l. cond (f (l * r + q)) 1 0) r n
+      ∙ sym (sum-groups (λ k. cond (f k) 1 0) n r)
+      ∙ ap (count f) (mul-comm n r)
+
+  -- of a vector's stride, one group is written
+  vector : (v : ℕ) → sum (λ p. row (v * (m * r) + p)) (m * r) ≡ count f (r * n)
+  vector v =
+      sum-groups (λ p. row (v * (m * r) + p)) m r
+      ∙ sum-cong (λ i. sum (λ q. row (v * (m * r) + (i * r + q))) r) (λ i. cond (eqb i g) (sum part r) 0) m
+      (λ i hi.
+      sum-cong (λ q. row (v * (m * r) + (i * r + q))) (λ q. cond (eqb i g) (part q) 0) r (λ q hq. at v i q hi hq)
+      ∙ sum-if (eqb i g) part r)
+      ∙ sum-one (sum part r) g m hg
+      ∙ parts
+
+  rows-count : sum (λ p. count (λ l. eqb (p % (m * r) / r) g && f (l * r + p % r)) n) 64 ≡ w * count f (r * n)
+  rows-count =
+      sum-cong (λ p. count (λ l. eqb (p % (m * r) / r) g && f (l * r + p % r)) n) row 64
+      (λ p h. count-if (eqb (p % (m * r) / r) g) (λ l. f (l * r + p % r)) n)
+      ∙ ap (sum row) (sym all)
+      ∙ sum-groups row w (m * r)
+      ∙ sum-cong (λ v. sum (λ p. row (v * (m * r) + p)) (m * r)) (λ v. count f (r * n)) w (λ v h. vector v)
+      ∙ sum-const (count f (r * n)) w
+
+-- for a stride s
+strides : (s r : ℕ) → Stride s → (m : ℕ) × (m * r ≡ 16) → (f : ℕ → Bool) (z n : ℕ)
+    → sum (λ p. count (λ l. eqb (p % s / r) (z % s / r) && f (l * r + p % r)) n) 64 ≡ 64 / s * count f (r * n)
+strides s r (t, (w, (es, ew))) (m, er) f z n =
+    subst (λ (x : ℕ). sum (λ p. count (λ l. eqb (p % x / r) (z % s / r) && f (l * r + p % r)) n) 64 ≡ w * count f (r * n)) (sym whole)
+    (rows-count w (t * m) r pos (subst (λ (x : ℕ). w * x ≡ 64) whole ew) f (z % s / r)
+    (div-lt-iff-lt-mul pos .1 (subst (λ (x : ℕ). z % s < x) whole (mod-lt z some))) n)
+    ∙ ap (λ (x : ℕ). x * count f (r * n)) (sym (ap (λ (x : ℕ). x / s) (sym ew) ∙ mul-div-cancel w some))
+  where
+    whole : s ≡ t * m * r
+    whole = es ∙ ap (λ (x : ℕ). t * x) (sym er) ∙ sym (mul-assoc t m r)
+
+    pos : 0 < r
+    pos = factor-pos r m 15 er
+
+    some : 0 < s
+    some = factor-pos s w 63 ew
+
+pub count-vecint : (gen op : ℕ)
+    → lanesOn (Vecint.vecint gen op)
+    ≡ 64 / Vecint.stride gen op * count (λ k. several gen op || masked op k) (Vecint.rowsEach op * lanesOf (zWidth op))
+unfolding lanesOn Vecint.on Vecint.writes Vecint.kOf
+count-vecint gen op =
+    strides (Vecint.stride gen op) (Vecint.rowsEach op) (stride gen op) (each (Vecint.rowsEach op) (rows-each op))
+    (λ k. several gen op || masked op k) (zRow op) (lanesOf (zWidth op))
