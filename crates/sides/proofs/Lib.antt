@@ -1,0 +1,4 @@
+pub mod Begun
+pub mod Lanes
+pub mod Alu
+pub mod Elements

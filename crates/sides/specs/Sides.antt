@@ -1,0 +1,35 @@
+-- The lanes of X or Y as integers, and the terms that vecint's ALU makes of them.
+-- Assumes nothing.
+use mathlib.Core.Bool.{Bool, cond, _&&_}
+use mathlib.Core.List.{List}
+use Prim.Native.Nat.{ℕ, _*_, _/_, _%_}
+use lib.Dec.{ltb}
+use lib.IntN.{ℤ, pos, _+ℤ_, _*ℤ_}
+use lib.ListN.{getD}
+use Rattle.number.specs.Bytes.{byteAt, number, table}
+use Rattle.number.specs.Integers.{read, _≫_}
+
+-- lane j of b bytes among loaded bytes, signed or not
+unfoldable pub laneOf : Bool → ℕ → List ℕ → ℕ → ℤ
+laneOf sign b bytes j = read sign b (number b (byteAt bytes) (b * j))
+
+-- bytes of a lane
+abbrev pub laneBytes : Bool → ℕ
+laneBytes wide = cond wide 2 1
+
+-- the lane that lane k uses: one lane for all, or, where the other side is narrower, lane k div 2, or lane k
+unfoldable pub indexOf : Bool → Bool → ℕ → Bool → ℕ → ℕ
+indexOf wide fixed lane halved k = cond fixed (lane % (64 / laneBytes wide)) (cond (wide && halved) (k / 2) k)
+
+-- the 64 lanes of a side; those past the loaded bytes are 0
+unfoldable pub sideOf : Bool → Bool → List ℕ → Bool → ℕ → Bool → List ℤ
+sideOf wide sign bytes fixed lane halved = table (λ k. laneOf sign (laneBytes wide) bytes (indexOf wide fixed lane halved k)) 0 64
+
+-- what the ALU makes of two lanes: a sum or a product, rounded in the saturating modes, shifted right
+unfoldable pub termOf : Bool → Bool → ℕ → ℤ → ℤ → ℤ
+termOf plus rounds s x y = (cond plus (x +ℤ y) (x *ℤ y) +ℤ cond rounds (pos 16384) (pos 0)) ≫ s
+
+-- the first n of 64 terms; the others 0
+unfoldable pub termsOf : ℕ → Bool → Bool → ℕ → List ℤ → List ℤ → List ℤ
+termsOf n plus rounds s xs ys =
+    table (λ k. cond (ltb k n) (termOf plus rounds s (getD xs k (pos 0)) (getD ys k (pos 0))) (pos 0)) 0 64
