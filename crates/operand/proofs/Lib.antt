@@ -1,2 +1,6 @@
 pub mod Fields
 pub mod Lanes
+pub mod Branches
+pub mod Table
+pub mod Entries
+pub mod Widths

@@ -1,13 +1,15 @@
 // The fields of an operand, and the lanes that enable modes enable. Every function takes every argument.
 ghost use mathlib.Core.Path.{_≡_};
 ghost use mathlib.Core.Bool.{false, cond};
-ghost use Prim.Native.Nat.{_≤_};
+ghost use Prim.Native.Nat.{_<_, _≤_};
 ghost use lib.ListN.{getD};
 ghost use Rattle.number.specs.Bytes.{table};
 ghost use Rattle.isa.specs.Operand.{bits, bit};
 ghost use Rattle.isa.specs.Enable as Enable;
 ghost use Rattle.isa.specs.Effect.{count};
-ghost use Rattle.isa.specs.Enable.{byParity, firstOrAll, lastOrAll, mac16Enables};
+ghost use Rattle.isa.specs.Enable.{byParity, firstOrAll, lastOrAll, mac16Enables, vecintEnables};
+ghost use Rattle.isa.specs.Vecint as Vecint;
+ghost use Rattle.operand.specs.Packed.{packed, packedReduction};
 
 // ---- fields
 
@@ -123,4 +125,236 @@ pub fn count32(on: &[bool; 32]) -> u64
         n += one_if(on[i]);
     }
     n
+}
+
+// ---- vecint: fields
+
+// Whether vecint enables lane i of so many.
+pub fn vecint_enables(lanes: u64, mode: u64, n: u64, i: u64) -> bool
+    ensures { λ r. ⌜ r ≡ vecintEnables lanes mode n i ⌝ }
+{
+    if mode == 0 {
+        return by_parity(n, n <= 5, i);
+    }
+    if mode == 1 {
+        return true;
+    }
+    if mode == 2 {
+        return first_or_all(n, i);
+    }
+    if mode == 3 {
+        return last_or_all(lanes, n, i);
+    }
+    if mode == 4 {
+        return i < n;
+    }
+    if mode == 5 {
+        return last(lanes, n, i);
+    }
+    false
+}
+
+// With bit 53 set the mode is 0.
+pub fn alu_mode(op: u64) -> u64
+    ensures { λ r. ⌜ (r ≡ Vecint.mode op) × (r < 64) ⌝ }
+{
+    if flag(op, 53) {
+        return 0;
+    }
+    field(op, 47, 52)
+}
+
+// Mode 4 works on Z alone.
+pub fn reduces(op: u64) -> bool
+    ensures { λ r. ⌜ r ≡ Vecint.reduces op ⌝ }
+{
+    alu_mode(op) == 4
+}
+
+// Modes 5 and 6 have widths, a shift and a clamp of their own.
+pub fn saturates(op: u64) -> bool
+    ensures { λ r. ⌜ r ≡ Vecint.saturates op ⌝ }
+{
+    let mode = alu_mode(op);
+    if mode == 5 {
+        return true;
+    }
+    mode == 6
+}
+
+pub fn vecint_shift(op: u64) -> u32
+    ensures { λ r. ⌜ (r ≡ Vecint.shift op) × (r < 32) ⌝ }
+{
+    if saturates(op) {
+        return 15;
+    }
+    field(op, 58, 62) as u32
+}
+
+// Whether the step works on several vectors, which generation 1 does not know.
+pub fn several(generation: u64, op: u64) -> bool
+    ensures { λ r. ⌜ r ≡ Vecint.several generation op ⌝ }
+{
+    if generation == 2 {
+        return flag(op, 31);
+    }
+    false
+}
+
+// An override by enable mode 0 and a value, or, with several vectors, by a broadcast mode.
+pub fn overrides(generation: u64, op: u64, value: u64, broadcast: u64) -> bool
+    ensures { λ r. ⌜ r ≡ Vecint.overrides generation op value broadcast ⌝ }
+{
+    if several(generation, op) {
+        return field(op, 32, 34) == broadcast;
+    }
+    if field(op, 38, 40) == 0 {
+        return field(op, 32, 37) == value;
+    }
+    false
+}
+
+// Several vectors in broadcast mode a or b.
+pub fn broadcasts(generation: u64, op: u64, a: u64, b: u64) -> bool
+    ensures { λ r. ⌜ r ≡ Vecint.broadcasts generation op a b ⌝ }
+{
+    if several(generation, op) {
+        let mode = field(op, 32, 34);
+        if mode == a {
+            return true;
+        }
+        return mode == b;
+    }
+    false
+}
+
+// ---- vecint: lane widths, in bytes
+
+// By the number in bits 42 to 45, a hex digit each for Z, Y and X: 0x422 is Z of 4 bytes, Y of 2 and X of 2.
+const WIDTHS: [u16; 16] = [
+    0x222,
+    0x222,
+    0x222,
+    0x422,
+    0x222,
+    0x222,
+    0x222,
+    0x222,
+    0x222,
+    0x222,
+    0x411,
+    0x211,
+    0x421,
+    0x412,
+    0x222,
+    0x222,
+];
+
+// The same for mode 4, a hex digit each for Z and the saturation: 0x42 is Z of 4 bytes, clamped to 2.
+const REDUCTIONS: [u8; 16] = [
+    0x22,
+    0x22,
+    0x22,
+    0x42,
+    0x44,
+    0x22,
+    0x22,
+    0x22,
+    0x22,
+    0x11,
+    0x41,
+    0x21,
+    0x22,
+    0x22,
+    0x22,
+    0x22,
+];
+
+// The number in bits 42 to 45.
+fn width_number(op: u64) -> usize
+    ensures { λ r. ⌜ (r ≡ bits op 42 45) × (r < 16) ⌝ }
+{
+    field(op, 42, 45) as usize
+}
+
+fn packed_widths(op: u64) -> u16
+    ensures { λ r. ⌜ r ≡ packed (Vecint.widths op) ⌝ }
+{
+    if saturates(op) {
+        return 0x222;
+    }
+    WIDTHS[width_number(op)]
+}
+
+fn packed_reduction(op: u64) -> u8
+    ensures { λ r. ⌜ r ≡ packedReduction (Vecint.reduction op) ⌝ }
+{
+    REDUCTIONS[width_number(op)]
+}
+
+// Of an X lane, and of a Y lane.
+pub fn x_width(op: u64) -> usize
+    ensures { λ r. ⌜ (r ≡ Vecint.widths op .x) × (r ≤ 2) ⌝ }
+{
+    (packed_widths(op) % 16) as usize
+}
+
+pub fn y_width(op: u64) -> usize
+    ensures { λ r. ⌜ (r ≡ Vecint.widths op .y) × (r ≤ 2) ⌝ }
+{
+    (packed_widths(op) / 16 % 16) as usize
+}
+
+// Of a Z lane, in all modes.
+pub fn z_width(op: u64) -> usize
+    ensures { λ r. ⌜ (r ≡ Vecint.zWidth op) × (r ≤ 4) ⌝ }
+{
+    if reduces(op) {
+        return (packed_reduction(op) / 16) as usize;
+    }
+    (packed_widths(op) / 256) as usize
+}
+
+// Of the range that mode 4 clamps to.
+pub fn saturation_width(op: u64) -> usize
+    ensures { λ r. ⌜ (r ≡ Vecint.reduction op .saturation) × (r ≤ 4) ⌝ }
+{
+    (packed_reduction(op) % 16) as usize
+}
+
+// ---- vecint: rows
+
+// Of an X or a Y lane, whichever is the narrower.
+fn narrower(op: u64) -> usize
+    ensures { λ r. ⌜ (r ≡ Vecint.narrower (Vecint.widths op)) × (1 ≤ r) ⌝ }
+{
+    let x = x_width(op);
+    let y = y_width(op);
+    if x <= y {
+        return x;
+    }
+    y
+}
+
+// The rows that a vector's lanes are dealt to; one in mode 4.
+pub fn rows_each(op: u64) -> usize
+    ensures { λ r. ⌜ (r ≡ Vecint.rowsEach op) × (r ≤ 4) ⌝ }
+{
+    if reduces(op) {
+        return 1;
+    }
+    z_width(op) / narrower(op)
+}
+
+// The rows from one vector to the next: of four vectors, of two, of one.
+pub fn stride(generation: u64, op: u64) -> usize
+    ensures { λ r. ⌜ (r ≡ Vecint.stride generation op) × (r ≤ 64) ⌝ }
+{
+    if several(generation, op) {
+        if flag(op, 25) {
+            return 16;
+        }
+        return 32;
+    }
+    64
 }
