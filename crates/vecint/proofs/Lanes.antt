@@ -9,7 +9,7 @@ use Rattle.number.specs.Integers.{signed, wrap, kept, clamp, clampSigned}
 use Rattle.number.proofs.Modular.{adds-modulo, takes-modulo}
 use Rattle.number.proofs.Tests.{pick-true, pick-false}
 use Rattle.vecint.specs.declared.Accumulate.{Accumulate}
-use Rattle.vecint.specs.Rows.{summed, clampedSum, accumulated}
+use Rattle.vecint.specs.Accumulation.{summed, clampedSum, accumulated}
 
 not-true : (b : Bool) → not b ≡ true → b ≡ false
 not-true true e = sym e

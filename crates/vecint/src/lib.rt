@@ -9,7 +9,8 @@ ghost use Rattle.number.specs.Bytes.{span, byteAt, number, bytesOf};
 ghost use Rattle.number.specs.Integers.{signed, wrap, kept};
 ghost use Rattle.isa.specs.State.{stateLength};
 ghost use Rattle.isa.specs.Effect.{applied};
-ghost use Rattle.vecint.specs.Rows.{oneRow, dealt, zBytes, zLanes, summed, clampedSum, accumulated, laneStored, accumulate};
+ghost use Rattle.state.specs.Rows.{oneRow, dealt};
+ghost use Rattle.vecint.specs.Accumulation.{zBytes, zLanes, summed, clampedSum, accumulated, laneStored, accumulate};
 
 // ---- lanes of all modes but 4
 

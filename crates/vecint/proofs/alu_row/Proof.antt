@@ -8,9 +8,10 @@ use lib.ListN.{length, getD}
 use mir.Facts.{toZ-ofZ}
 use mir.Syntax.{w64}
 use borrow.Author.Needs.{sfits-of}
-use Rattle.vecint.specs.Rows.{zBytes, zLanes, accumulate, laneStored}
+use Rattle.vecint.specs.Accumulation.{zBytes, zLanes, accumulate, laneStored}
 use Rattle.state.proofs.Holds.{Bytes}
-use Rattle.vecint.proofs.Dealing.{fits, place-in, bytes-in, Lanes, lanes-none, lanes-more, lanes-all}
+use Rattle.vecint.proofs.Bounds.{fits, place-in, bytes-in}
+use Rattle.state.proofs.Dealing.{Lanes, lanes-none, lanes-more, lanes-all}
 use Rattle.vecint.proofs.alu_row.Statement.{statement}
 use Rattle.vecint.proofs.alu_row.Tie as tie
 use Rattle.vecint.proofs.alu_row.Reads as reads

@@ -4,9 +4,10 @@ use borrow.Author.Needs.{needs}
 use Prim.Native.Nat.{ℕ, _+_, _*_, _-_, _≤_}
 use mathlib.Core.Bool.{Bool, false, cond}
 use lib.ListN.{length, getD}
-use Rattle.vecint.specs.Rows.{zBytes, zLanes, accumulate}
+use Rattle.vecint.specs.Accumulation.{zBytes, zLanes, accumulate}
 use Rattle.state.proofs.Holds.{Bytes}
-use Rattle.vecint.proofs.Dealing.{fits, RowsTo, rows-none, rows-one-more, rows-all}
+use Rattle.vecint.proofs.Bounds.{fits}
+use Rattle.state.proofs.Dealing.{RowsTo, rows-none, rows-one-more, rows-all}
 use Rattle.vecint.proofs.alu_rows.Statement.{statement}
 use Rattle.vecint.proofs.alu_rows.Tie as tie
 use Rattle.vecint.proofs.alu_rows.Reads as reads

@@ -7,7 +7,7 @@ use lib.IntN.{ℤ, pos, negsuc, negℤ, _+ℤ_}
 use Rattle.number.specs.Bytes.{span, byteAt, number, bytesOf}
 use Rattle.number.specs.Integers.{signed, wrap, kept, clamp}
 use Rattle.number.proofs.Tests.{pick-true, pick-false}
-use Rattle.vecint.specs.Rows.{laneStored}
+use Rattle.vecint.specs.Accumulation.{laneStored}
 use borrow.Author.Needs.{needs}
 use Rattle.vecint.proofs.lane.Statement.{statement}
 use Rattle.vecint.proofs.lane.Tie as tie

@@ -10,7 +10,7 @@ use Rattle.number.proofs.Tests.{pick-true, pick-false}
 use mathlib.Core.Bool.{cond, true, false}
 use Prim.Native.Nat.{ℕ}
 use lib.Seq.{sets}
-use Rattle.vecint.specs.Rows.{summed, accumulated}
+use Rattle.vecint.specs.Accumulation.{summed, accumulated}
 use borrow.Author.Needs.{needs}
 use Rattle.vecint.proofs.lane16.Statement.{statement}
 use Rattle.vecint.proofs.lane16.Tie as tie

@@ -11,7 +11,7 @@ use Rattle.vecint.proofs.Lanes.{wide-summed}
 use mathlib.Core.Bool.{cond, true, false}
 use Prim.Native.Nat.{ℕ}
 use lib.Seq.{sets}
-use Rattle.vecint.specs.Rows.{summed, accumulated}
+use Rattle.vecint.specs.Accumulation.{summed, accumulated}
 use borrow.Author.Needs.{needs}
 use Rattle.vecint.proofs.lane32.Statement.{statement}
 use Rattle.vecint.proofs.lane32.Tie as tie

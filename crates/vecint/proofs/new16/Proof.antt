@@ -8,7 +8,7 @@ use Rattle.number.specs.Bytes.{span, byteAt, number, bytesOf}
 use Rattle.number.specs.Integers.{signed, wrap, kept, clamp}
 use Rattle.number.proofs.Tests.{pick-true, pick-false}
 use Rattle.vecint.proofs.Lanes.{is-clamped, is-summed}
-use Rattle.vecint.specs.Rows.{summed, clampedSum}
+use Rattle.vecint.specs.Accumulation.{summed, clampedSum}
 use borrow.Author.Needs.{needs}
 use Rattle.vecint.proofs.new16.Statement.{statement}
 use Rattle.vecint.proofs.new16.Tie as tie

@@ -1,36 +1,14 @@
--- What the code does to rows of Z, as effects.
+-- What becomes of a term in a lane of Z, in all modes but 4.
 -- Assumes nothing.
-use mathlib.Core.Bool.{Bool, false, cond, _&&_}
+use mathlib.Core.Bool.{Bool, cond}
 use mathlib.Core.List.{List}
-use Prim.Native.Nat.{ℕ, _+_, _-_, _*_}
+use Prim.Native.Nat.{ℕ}
 use lib.IntN.{ℤ, pos, negℤ, _+ℤ_}
 use lib.ListN.{getD}
 use lib.Seq.{sets}
 use Rattle.number.specs.Bytes.{span, byteAt, number, bytesOf}
 use Rattle.number.specs.Integers.{signed, wrap, kept, clampSigned}
-use Rattle.isa.specs.Effect.{Effect}
-use Rattle.state.specs.Rows.{among}
 use Rattle.vecint.specs.declared.Accumulate.{Accumulate}
-
--- One row: lane l, where it is on, receives what is made of its place and its old number.
-abbrev pub oneRow : ℕ → ℕ → (ℕ → Bool) → (ℕ → ℕ → ℕ) → Effect
-oneRow b row on new = record {
-  width = b;
-  on = λ r l. among row 1 r && on l;
-  new = λ xy r l z. new l z;
-  adds = false;
-}
-
--- The c rows that a vector's lanes are dealt to, from a row on: lane l of row base + q is lane k = l c + q of the vector.
-abbrev pub dealt : ℕ → ℕ → ℕ → (ℕ → Bool) → (ℕ → ℕ → ℕ) → Effect
-dealt b base c on new = record {
-  width = b;
-  on = λ r l. among base c r && on (l * c + (r - base));
-  new = λ xy r l z. new (l * c + (r - base)) z;
-  adds = false;
-}
-
--- ---- the lanes of all modes but 4
 
 -- bytes of a Z lane, and lanes in a row
 abbrev pub zBytes : Bool → ℕ

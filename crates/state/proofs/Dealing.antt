@@ -15,11 +15,10 @@ use Rattle.number.proofs.Tests.{true-false, two, pick-true, pick-false, lt-or-l
 use Rattle.isa.specs.State.{start}
 use Rattle.isa.specs.Effect.{Effect, newLane, applied}
 use Rattle.isa.proofs.Place.{factor-pos}
-use Rattle.state.specs.Rows.{among}
 use Rattle.state.proofs.Holds.{Bytes, laneAfter, Holds}
 use Rattle.state.proofs.RunLoop.{InRun, Upto, run-none, run-reads, run-more, run-all, run-start, number-lt, among-yes, among-before, among-after}
 use Rattle.state.proofs.RowsLoop.{Below, rows-start, rows-skip, rows-more, rows-end, same-lanes}
-use Rattle.vecint.specs.Rows.{oneRow, dealt, zBytes, zLanes}
+use Rattle.state.specs.Rows.{among, oneRow, dealt}
 
 -- ---- one row, a lane at a time; m lanes of b bytes fill it
 
@@ -137,26 +136,3 @@ module _ (b m : ℕ) (fit : m * b ≡ 64) (base c : ℕ) (s : List ℕ) (size : 
 
           past : (o : ℕ → Bool) (n : ℕ → ℕ → ℕ) → base + c ≤ r → dealt b base c o n .on r l ≡ false
           past o n h = rw (among-after base c r h)
-
--- ---- bounds
-
-pub fits : (wide : Bool) → zLanes wide * zBytes wide ≡ 64
-fits true = refl
-fits false = refl
-
--- lane l of the row that has place q of c
-pub place-in : (wide : Bool) (l q c lanes : ℕ) → lanes ≡ zLanes wide → l < lanes → q < c → zLanes wide * c ≤ 64 → l * c + q < 64
-place-in wide l q c lanes e hl hq h =
-    let below : l < zLanes wide = omega (arith, e) in
-    let place : l * c + q < zLanes wide * c = digits-lt below hq in
-    omega arith
-
-pub bytes-in : (wide : Bool) (l bytes lanes : ℕ) → bytes ≡ zBytes wide → lanes ≡ zLanes wide → l < lanes → l * bytes ≤ 64
-bytes-in true l bytes lanes eb el h = ap-le (omega arith)
-  where
-    ap-le : l * 4 ≤ 64 → l * bytes ≤ 64
-    ap-le x = rw eb x
-bytes-in false l bytes lanes eb el h = ap-le (omega arith)
-  where
-    ap-le : l * 2 ≤ 64 → l * bytes ≤ 64
-    ap-le x = rw eb x
