@@ -8,7 +8,7 @@ use Rattle.number.specs.Bytes.{span}
 use Rattle.number.specs.Integers.{signed, wrap, kept, clamp, clampSigned}
 use Rattle.number.proofs.Modular.{adds-modulo, takes-modulo}
 use Rattle.number.proofs.Tests.{pick-true, pick-false}
-use Rattle.vecint.specs.declared.Accumulate.{Accumulate}
+use Rattle.vecint.specs.declared.Alu.{Alu}
 use Rattle.vecint.specs.Accumulation.{summed, clampedSum, accumulated}
 
 not-true : (b : Bool) → not b ≡ true → b ≡ false
@@ -19,7 +19,7 @@ not-false : (b : Bool) → not b ≡ false → b ≡ true
 not-false true e = refl
 not-false false e = sym e
 
-module _ (how : Accumulate) (b z : ℕ) (t : ℤ) (r v : ℕ) (ev : v ≡ wrap (span b) t) where
+module _ (how : Alu) (b z : ℕ) (t : ℤ) (r v : ℕ) (ev : v ≡ wrap (span b) t) where
   pub in-place : not (how .keeps) ≡ true → v ≡ wrap (span b) (summed how (signed b z) t)
   unfolding summed
   in-place k = ev ∙ ap (wrap (span b)) (sym (pick-false _ _ (not-true (how .keeps) k)))
@@ -39,7 +39,7 @@ module _ (how : Accumulate) (b z : ℕ) (t : ℤ) (r v : ℕ) (ev : v ≡ wrap (
       ∙ ap (wrap (span b)) (sym (kept-with false n k))
 
 -- the clamp of the saturating modes
-module _ (how : Accumulate) (z : ℤ) (t : ℤ) where
+module _ (how : Alu) (z : ℤ) (t : ℤ) where
   pub clamp-sum : (v s : ℤ) → how .keeps ≡ true → s ≡ cond (how .negates) (kept 8 (negℤ t)) t → v ≡ kept 8 (z +ℤ s) → clampSigned 2 v ≡ clampedSum how z t
   unfolding clampedSum
   clamp-sum v s k es ev = ap (clampSigned 2) (ev ∙ ap (λ (x : ℤ). kept 8 (z +ℤ x)) es ∙ sym (pick-true _ _ k))

@@ -2,26 +2,33 @@
 ghost use mathlib.Core.Path.{_≡_};
 ghost use mathlib.Core.Bool.{true, false, cond};
 ghost use Prim.Native.Nat.{_+_, _*_, _<_, _≤_};
-ghost use lib.IntN.{pos, negℤ};
+ghost use lib.Dec.{eqb};
+ghost use lib.IntN.{negℤ};
 ghost use lib.ListN.{length, getD};
-ghost use lib.Seq.{sets};
-ghost use Rattle.number.specs.Bytes.{span, byteAt, number, bytesOf};
+ghost use Rattle.number.specs.Bytes.{span};
 ghost use Rattle.number.specs.Integers.{signed, wrap, kept};
 ghost use Rattle.isa.specs.State.{stateLength};
 ghost use Rattle.isa.specs.Effect.{applied};
+ghost use Rattle.isa.specs.Vecint as Vecint;
 ghost use Rattle.state.specs.Rows.{oneRow, dealt};
 ghost use Rattle.vecint.specs.Accumulation.{zBytes, zLanes, summed, clampedSum, accumulated, laneStored, accumulate};
+ghost use Rattle.vecint.specs.Modes.{sumsIn, yAlone, negatesIn, aluBy};
+ghost use Rattle.vecint.specs.Vectors.{fixedY, laneY, HoldsX, HoldsY, HoldsTerms, vectorEffect};
 
 // ---- lanes of all modes but 4
 
-// What becomes of a term: whether it is added to old Z or takes its place, whether it is negated, whether the sum is clamped.
-pub struct Accumulate {
-    pub clamps: bool,
+// What a mode does, lane by lane: a sum of x and y or a product, X or Y left out as 0, and what becomes of the term, which is negated, added to
+// old Z and clamped, or not.
+pub struct Alu {
+    pub sums: bool,
+    pub skipx: bool,
+    pub skipy: bool,
     pub negates: bool,
     pub keeps: bool,
+    pub clamps: bool,
 }
 
-fn sum16(z: u16, t: i64, how: Accumulate) -> u16
+fn sum16(z: u16, t: i64, how: Alu) -> u16
     ensures { λ r. ⌜ r ≡ wrap (span 2) (summed how (signed 2 z) t) ⌝ }
 {
     let v = number::wrapped16(t);
@@ -34,7 +41,7 @@ fn sum16(z: u16, t: i64, how: Accumulate) -> u16
     std::num::wrapping_add_u16(z, v)
 }
 
-fn sum32(z: u32, t: i64, how: Accumulate) -> u32
+fn sum32(z: u32, t: i64, how: Alu) -> u32
     ensures { λ r. ⌜ r ≡ wrap (span 4) (summed how (signed 4 z) t) ⌝ }
 {
     let v = number::wrapped32(t);
@@ -53,7 +60,7 @@ fn signed_by(t: i64, negates: bool) -> i64
     if negates { number::negated(t) } else { t }
 }
 
-fn clamp16(z: u16, t: i64, how: Accumulate) -> u16
+fn clamp16(z: u16, t: i64, how: Alu) -> u16
     ensures { λ r. ⌜ r ≡ wrap (span 2) (clampedSum how (signed 2 z) t) ⌝ }
 {
     if how.keeps {
@@ -63,7 +70,7 @@ fn clamp16(z: u16, t: i64, how: Accumulate) -> u16
     number::wrapped16(number::clamped(-32_768, 32_767, t))
 }
 
-fn new16(z: u16, t: i64, how: Accumulate) -> u16
+fn new16(z: u16, t: i64, how: Alu) -> u16
     ensures { λ r. ⌜ r ≡ wrap (span 2) (accumulated false how (signed 2 z) t) ⌝ }
 {
     if how.clamps {
@@ -85,7 +92,7 @@ fn chosen32(on: bool, n: u32, z: u32) -> u32
     if on { n } else { z }
 }
 
-fn lane16(state: &mut [u8], at: usize, t: i64, on: bool, how: Accumulate)
+fn lane16(state: &mut [u8], at: usize, t: i64, on: bool, how: Alu)
     ensures { λ _. ⌜ now (state .exit) ≡ laneStored false how (now (state .entry)) at t on ⌝ }
 {
     let z = number::get16(state, at);
@@ -93,7 +100,7 @@ fn lane16(state: &mut [u8], at: usize, t: i64, on: bool, how: Accumulate)
     number::put16(state, at, chosen16(on, n, z));
 }
 
-fn lane32(state: &mut [u8], at: usize, t: i64, on: bool, how: Accumulate)
+fn lane32(state: &mut [u8], at: usize, t: i64, on: bool, how: Alu)
     ensures { λ _. ⌜ now (state .exit) ≡ laneStored true how (now (state .entry)) at t on ⌝ }
 {
     let z = number::get32(state, at);
@@ -102,7 +109,7 @@ fn lane32(state: &mut [u8], at: usize, t: i64, on: bool, how: Accumulate)
 }
 
 // A lane of 32 bits or of 16.
-fn lane(state: &mut [u8], at: usize, wide: bool, t: i64, on: bool, how: Accumulate)
+fn lane(state: &mut [u8], at: usize, wide: bool, t: i64, on: bool, how: Alu)
     ensures { λ _. ⌜ now (state .exit) ≡ laneStored wide how (now (state .entry)) at t on ⌝ }
 {
     if wide {
@@ -133,7 +140,7 @@ fn alu_row(
     wide: bool,
     terms: &[i64; 64],
     on: &[bool; 64],
-    how: Accumulate,
+    how: Alu,
 )
     requires { ⌜ (length (now state) ≡ stateLength) × (row < 64) × (q < c) × (c ≤ 4) × (zLanes wide * c ≤ 64) ⌝ }
     ensures { λ _. ⌜ now (state .exit) ≡ applied (oneRow (zBytes wide) row (λ l. getD (now (on .entry)) (l * c + q) false)
@@ -162,7 +169,7 @@ fn alu_rows(
     wide: bool,
     terms: &[i64; 64],
     on: &[bool; 64],
-    how: Accumulate,
+    how: Alu,
 )
     requires { ⌜ (length (now state) ≡ stateLength) × (base + c ≤ 64) × (c ≤ 4) × (zLanes wide * c ≤ 64) ⌝ }
     ensures { λ _. ⌜ now (state .exit) ≡ applied (dealt (zBytes wide) base c (λ k. getD (now (on .entry)) k false)
@@ -171,4 +178,150 @@ fn alu_rows(
     for q in 0..c {
         alu_row(state, base + q, q, c, wide, terms, on, how);
     }
+}
+
+// ---- modes
+
+fn sums_in(mode: u64) -> bool
+    ensures { λ r. ⌜ r ≡ sumsIn mode ⌝ }
+{
+    if mode == 0 {
+        return false;
+    }
+    if mode == 1 {
+        return false;
+    }
+    if mode == 5 {
+        return false;
+    }
+    if mode == 6 {
+        return false;
+    }
+    mode != 10
+}
+
+fn y_alone(mode: u64) -> bool
+    ensures { λ r. ⌜ r ≡ yAlone mode ⌝ }
+{
+    if mode == 2 {
+        return false;
+    }
+    if mode == 3 {
+        return false;
+    }
+    if mode == 11 {
+        return false;
+    }
+    sums_in(mode)
+}
+
+fn negates_in(mode: u64) -> bool
+    ensures { λ r. ⌜ r ≡ negatesIn mode ⌝ }
+{
+    if mode == 1 {
+        return true;
+    }
+    if mode == 3 {
+        return true;
+    }
+    mode == 6
+}
+
+// What an operand's mode does, and nothing but 0 where its output is forced to 0.
+fn alu_by(generation: u64, op: u64) -> Alu
+    ensures { λ r. ⌜ r ≡ aluBy generation op ⌝ }
+{
+    if operand::overrides(generation, op, 3, 1) {
+        return Alu {
+            sums: false,
+            skipx: true,
+            skipy: true,
+            negates: false,
+            keeps: false,
+            clamps: false,
+        };
+    }
+    let mode = operand::alu_mode(op);
+    Alu {
+        sums: sums_in(mode),
+        skipx: y_alone(mode),
+        skipy: mode == 11,
+        negates: negates_in(mode),
+        keeps: mode != 10,
+        clamps: operand::saturates(op),
+    }
+}
+
+// ---- the sides of a vector
+
+// Whether a side is read as 0: left out by the mode, or by an override.
+fn blank(skip: bool, generation: u64, op: u64, value: u64, broadcast: u64) -> bool
+    ensures { λ r. ⌜ r ≡ cond skip true (Vecint.overrides generation op value broadcast) ⌝ }
+{
+    if skip {
+        return true;
+    }
+    operand::overrides(generation, op, value, broadcast)
+}
+
+// Where the 64 bytes of vector v begin: they advance by 64, but in broadcast modes a and b.
+fn offset(generation: u64, op: u64, v: usize, from: u64, a: u64, b: u64) -> u64
+    requires { ⌜ (v < 4) × (from < 512) ⌝ }
+    ensures { λ r. ⌜ r ≡ from + cond (Vecint.broadcasts generation op a b) 0 (64 * v) ⌝ }
+{
+    if operand::broadcasts(generation, op, a, b) {
+        return from;
+    }
+    from + 64 * (v as u64)
+}
+
+fn x_side(state: &[u8], generation: u64, op: u64, v: usize, skip: bool) -> [i32; 64]
+    requires { ⌜ (v < 4) × (Vecint.reduces op ≡ false) ⌝ }
+    ensures { λ r. ⌜ HoldsX generation op (now (state .entry)) v skip r ⌝ }
+{
+    let from = offset(generation, op, v, operand::field(op, 10, 18), 2, 6);
+    let bytes = state::load_unless(blank(skip, generation, op, 4, 4), state, false, from);
+    sides::side(
+        &bytes,
+        operand::x_width(op) == 2,
+        operand::flag(op, 63),
+        operand::broadcasts(generation, op, 6, 6),
+        0,
+        operand::y_width(op) == 1,
+    )
+}
+
+// A lane of Y for every lane: by broadcast mode 7 its lane 0, by enable mode 1 the lane that the value names.
+fn fixed_y(generation: u64, op: u64) -> bool
+    ensures { λ r. ⌜ r ≡ fixedY generation op ⌝ }
+{
+    if operand::several(generation, op) {
+        return operand::field(op, 32, 34) == 7;
+    }
+    operand::field(op, 38, 40) == 1
+}
+
+fn lane_y(generation: u64, op: u64) -> usize
+    ensures { λ r. ⌜ r ≡ laneY generation op ⌝ }
+{
+    if operand::several(generation, op) {
+        return 0;
+    }
+    operand::field(op, 32, 37) as usize
+}
+
+fn y_side(state: &[u8], generation: u64, op: u64, v: usize, skip: bool) -> [i32; 64]
+    requires { ⌜ (v < 4) × (Vecint.reduces op ≡ false) ⌝ }
+    ensures { λ r. ⌜ HoldsY generation op (now (state .entry)) v skip r ⌝ }
+{
+    let from = offset(generation, op, v, operand::field(op, 0, 8), 3, 7);
+    let bytes = state::load_unless(blank(skip, generation, op, 5, 5), state, true, from);
+    sides::side(
+        &bytes,
+        operand::y_width(op) == 2,
+        operand::flag(op, 26),
+        fixed_y(generation, op),
+        lane_y(generation, op),
+        operand::x_width(op) == 1,
+    )
 }

@@ -20,35 +20,35 @@ Inv-loop state₀ base c wide terms on how q₀ state q = (q ≤ c) × RowsTo (z
 abbrev μ-loop : tie.MeasureT-loop
 μ-loop state₀ base c wide terms on how q₀ state q = c - q
 
--- src/lib.rt:170:5
+-- src/lib.rt:178:5
 loop-holds : tie.Need-loop-holds Inv-loop μ-loop
 loop-holds c = (omega arith, rows-none (zBytes (c .before .args .wide)) (zLanes (c .before .args .wide)) (fits (c .before .args .wide)) (c .before .args .base) (c .before .args .c) (λ k. getD (c .before .args .on .now) k false) (accumulate (c .before .args .wide) (c .before .args .how) (c .before .args .terms .now)) (c .before .args .state .now) (c .before .pre .0), λ p. c .slice-known .given p .fits)
 
--- src/lib.rt:171:24
+-- src/lib.rt:179:24
 add-alu-row : tie.Need-add-alu-row Inv-loop μ-loop
 add-alu-row c = search needs
 
--- src/lib.rt:171:9
+-- src/lib.rt:179:9
 alu-row-requires : tie.Need-alu-row-requires Inv-loop μ-loop
 alu-row-requires c κs = (c .before .before .loop .inv .1 .size, omega arith, c .before .loop-test .taken, c .before .before .before .before .pre .2, c .before .before .before .before .pre .3)
 
--- src/lib.rt:170:9
+-- src/lib.rt:178:9
 add-q : tie.Need-add-q Inv-loop μ-loop
 add-q c = search needs
 
--- src/lib.rt:170:5
+-- src/lib.rt:178:5
 loop-less : tie.Need-loop-less Inv-loop μ-loop
 loop-less c = search needs
 
--- src/lib.rt:170:5
+-- src/lib.rt:178:5
 loop-again : tie.Need-loop-again Inv-loop μ-loop
 loop-again c = (omega arith, rows-one-more (zBytes (c .before .before .before .before .before .before .before .args .wide)) (zLanes (c .before .before .before .before .before .before .before .args .wide)) (fits (c .before .before .before .before .before .before .before .args .wide)) (c .before .before .before .before .before .before .before .args .base) (c .before .before .before .before .before .before .before .args .c) (λ k. getD (c .before .before .before .before .before .before .before .args .on .now) k false) (accumulate (c .before .before .before .before .before .before .before .args .wide) (c .before .before .before .before .before .before .before .args .how) (c .before .before .before .before .before .before .before .args .terms .now)) (c .before .before .before .before .before .before .before .args .state .now) (c .before .before .before .before .before .loop .q) (c .before .before .before .before .before .loop .state) (c .before .before .alu-row .last .0) (c .before .before .before .before .loop-test .taken) (c .before .before .before .before .before .loop .inv .1) (c .before .before .alu-row .ensures), λ p. c .slice-known2 .given p .fits)
 
--- src/lib.rt:157:1
+-- src/lib.rt:165:1
 same-length : tie.Need-same-length Inv-loop μ-loop
 same-length c = c .before .loop .inv .1 .size ∙ sym (c .before .before .before .pre .0)
 
--- src/lib.rt:157:1
+-- src/lib.rt:165:1
 returns : tie.Need-returns Inv-loop μ-loop
 returns c = rows-all (zBytes (c .before .before .before .args .wide)) (zLanes (c .before .before .before .args .wide)) (fits (c .before .before .before .args .wide)) (c .before .before .before .args .base) (c .before .before .before .args .c) (λ k. getD (c .before .before .before .args .on .now) k false) (accumulate (c .before .before .before .args .wide) (c .before .before .before .args .how) (c .before .before .before .args .terms .now)) (c .before .before .before .args .state .now) (c .before .loop .q) (c .before .loop .state) (c .loop-test .left) (c .before .loop .inv .0) (c .before .before .before .pre .1) (c .before .before .before .pre .0) (λ p. c .before .before .slice-known .given p .fits) (c .before .loop .inv .2) (c .before .loop .inv .1)
 

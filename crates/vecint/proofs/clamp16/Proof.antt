@@ -22,43 +22,43 @@ use Rattle.number.proofs.signed16.Reads as signed16-reads
 use Rattle.number.proofs.wrapped16.Reads as wrapped16-reads
 use Rattle.vecint.proofs.signed_by.Reads as signed-by-reads
 
--- src/lib.rt:59:31
+-- src/lib.rt:67:31
 signed16-requires : tie.Need-signed16-requires
 signed16-requires c κs = search needs
 
--- src/lib.rt:59:31
+-- src/lib.rt:67:31
 cast-added : tie.Need-cast-added
 cast-added c = rw (toZ-ofZ {w = w16} (sfits-of (c .signed16 .ok))) (sfits-widen {w = w16} {w′ = w64} tt (sfits-of (c .signed16 .ok)))
 
--- src/lib.rt:59:59
+-- src/lib.rt:67:59
 signed-by-requires : tie.Need-signed-by-requires
 signed-by-requires c κs = search needs
 
--- src/lib.rt:59:13
+-- src/lib.rt:67:13
 added-requires : tie.Need-added-requires
 added-requires c κs = search needs
 
--- src/lib.rt:60:34
+-- src/lib.rt:68:34
 clamped-requires : tie.Need-clamped-requires
 clamped-requires c κs = search needs
 
--- src/lib.rt:60:9
+-- src/lib.rt:68:9
 wrapped16-requires : tie.Need-wrapped16-requires
 wrapped16-requires c κs = search needs
 
--- src/lib.rt:60:9
+-- src/lib.rt:68:9
 returns : tie.Need-returns
 returns c = c .wrapped16 .ensures ∙ ap (wrap (span 2)) (toZ-ofZ (sfits-of (c .before .clamped .ok)) ∙ c .before .clamped .ensures ∙ ap (clamp (negsuc 32767) (pos 32767)) {y = c .before .before .added .result} (toZ-ofZ {w = w64} (sfits-of (c .before .before .added .ok))) ∙ clamp-sum (c .before .before .before .before .before .before .args .how) (signed 2 (c .before .before .before .before .before .before .args .z)) (c .before .before .before .before .before .before .args .t) (c .before .before .added .result) (c .before .before .before .signed-by .result) (c .before .before .before .before .before .if1 .taken) (c .before .before .before .signed-by .ensures ∙ ap (λ (t : ℤ). cond (c .before .before .before .before .before .before .args .how .negates) (kept 8 (negℤ t)) t) (toZ-ofZ (c .before .before .before .before .before .before .fits .t))) (c .before .before .added .ensures ∙ ap₂ (λ (x y : ℤ). kept 8 (x +ℤ y)) (widened w16 w64 (c .before .before .before .before .signed16 .result) tt (sfits-of (c .before .before .before .before .signed16 .ok)) ∙ c .before .before .before .before .signed16 .ensures) (toZ-ofZ (sfits-of (c .before .before .before .signed-by .ok)))))
 
--- src/lib.rt:62:23
+-- src/lib.rt:70:23
 clamped-requires-2 : tie.Need-clamped-requires-2
 clamped-requires-2 c κs = search needs
 
--- src/lib.rt:62:5
+-- src/lib.rt:70:5
 wrapped16-requires-2 : tie.Need-wrapped16-requires-2
 wrapped16-requires-2 c κs = search needs
 
--- src/lib.rt:55:1
+-- src/lib.rt:63:1
 returns-2 : tie.Need-returns-2
 returns-2 c = c .wrapped162 .ensures ∙ ap (wrap (span 2)) (toZ-ofZ (sfits-of (c .before .clamped2 .ok)) ∙ c .before .clamped2 .ensures ∙ ap (clamp (negsuc 32767) (pos 32767)) (toZ-ofZ {w = w64} (c .before .before .before .fits .t)) ∙ clamp-term (c .before .before .before .args .how) (signed 2 (c .before .before .before .args .z)) (c .before .before .before .args .t) (c .before .before .if1 .left))
 

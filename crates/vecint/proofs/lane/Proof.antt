@@ -16,27 +16,27 @@ use Rattle.vecint.proofs.lane.Lts as lts
 use Rattle.vecint.proofs.lane16.Reads as lane16-reads
 use Rattle.vecint.proofs.lane32.Reads as lane32-reads
 
--- src/lib.rt:108:9
+-- src/lib.rt:116:9
 lane32-requires : tie.Need-lane32-requires
 lane32-requires c κs = search needs
 
--- src/lib.rt:109:9
+-- src/lib.rt:117:9
 same-length : tie.Need-same-length
 same-length c = search needs
 
--- src/lib.rt:109:9
+-- src/lib.rt:117:9
 returns : tie.Need-returns
 returns c = c .before .before .lane32 .ensures ∙ (λ i. laneStored (sym (c .before .before .before .before .if1 .taken) i) (c .before .before .before .before .before .before .args .how) (c .before .before .before .before .before .before .args .state .now) (c .before .before .before .before .before .before .args .at) (toZ-ofZ (c .before .before .before .before .before .before .fits .t) i) (c .before .before .before .before .before .before .args .on))
 
--- src/lib.rt:111:5
+-- src/lib.rt:119:5
 lane16-requires : tie.Need-lane16-requires
 lane16-requires c κs = search needs
 
--- src/lib.rt:104:1
+-- src/lib.rt:112:1
 same-length-2 : tie.Need-same-length-2
 same-length-2 c = search needs
 
--- src/lib.rt:104:1
+-- src/lib.rt:112:1
 returns-2 : tie.Need-returns-2
 returns-2 c = c .before .before .lane16 .ensures ∙ (λ i. laneStored (sym (c .before .before .before .before .if1 .left) i) (c .before .before .before .before .before .before .args .how) (c .before .before .before .before .before .before .args .state .now) (c .before .before .before .before .before .before .args .at) (toZ-ofZ (c .before .before .before .before .before .before .fits .t) i) (c .before .before .before .before .before .before .args .on))
 

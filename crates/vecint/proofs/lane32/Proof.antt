@@ -22,27 +22,27 @@ use Rattle.number.proofs.put32.Reads as put32-reads
 use Rattle.vecint.proofs.chosen32.Reads as chosen32-reads
 use Rattle.vecint.proofs.sum32.Reads as sum32-reads
 
--- src/lib.rt:98:9
+-- src/lib.rt:106:9
 get32-requires : tie.Need-get32-requires
 get32-requires c κs = search needs
 
--- src/lib.rt:99:9
+-- src/lib.rt:107:9
 sum32-requires : tie.Need-sum32-requires
 sum32-requires c κs = search needs
 
--- src/lib.rt:100:30
+-- src/lib.rt:108:30
 chosen32-requires : tie.Need-chosen32-requires
 chosen32-requires c κs = search needs
 
--- src/lib.rt:100:5
+-- src/lib.rt:108:5
 put32-requires : tie.Need-put32-requires
 put32-requires c κs = search needs
 
--- src/lib.rt:95:1
+-- src/lib.rt:103:1
 same-length : tie.Need-same-length
 same-length c = search needs
 
--- src/lib.rt:95:1
+-- src/lib.rt:103:1
 returns : tie.Need-returns
 returns c = c .before .before .put32 .ensures ∙ ap (λ (n : ℕ). sets (c .before .before .before .before .before .before .before .before .before .args .state .now) (c .before .before .before .before .before .before .before .before .before .args .at) (bytesOf 4 n)) (c .before .before .before .chosen32 .ensures ∙ ap₂ (cond (c .before .before .before .before .before .before .before .before .before .args .on)) (c .before .before .before .before .before .sum32 .ensures ∙ ap (λ (t : ℤ). wrap (span 4) (summed (c .before .before .before .before .before .before .before .before .before .args .how) (signed 4 (c .before .before .before .before .before .before .get32 .result)) t)) (toZ-ofZ (c .before .before .before .before .before .before .before .before .before .fits .t)) ∙ ap (wrap (span 4)) (wide-summed (c .before .before .before .before .before .before .before .before .before .args .how) (signed 4 (c .before .before .before .before .before .before .get32 .result)) (c .before .before .before .before .before .before .before .before .before .args .t))) refl ∙ ap (λ (z : ℕ). cond (c .before .before .before .before .before .before .before .before .before .args .on) (wrap (span 4) (accumulated true (c .before .before .before .before .before .before .before .before .before .args .how) (signed 4 z) (c .before .before .before .before .before .before .before .before .before .args .t))) z) (c .before .before .before .before .before .before .get32 .ensures))
 

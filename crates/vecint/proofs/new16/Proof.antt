@@ -17,19 +17,19 @@ use Rattle.vecint.proofs.new16.Lts as lts
 use Rattle.vecint.proofs.clamp16.Reads as clamp16-reads
 use Rattle.vecint.proofs.sum16.Reads as sum16-reads
 
--- src/lib.rt:69:9
+-- src/lib.rt:77:9
 clamp16-requires : tie.Need-clamp16-requires
 clamp16-requires c κs = search needs
 
--- src/lib.rt:69:9
+-- src/lib.rt:77:9
 returns : tie.Need-returns
 returns c = c .clamp16 .ensures ∙ ap (λ (t : ℤ). wrap (span 2) (clampedSum (c .before .before .args .how) (signed 2 (c .before .before .args .z)) t)) (toZ-ofZ (c .before .before .fits .t)) ∙ ap (wrap (span 2)) (is-clamped (c .before .before .args .how) (signed 2 (c .before .before .args .z)) (c .before .before .args .t) (c .before .if1 .taken))
 
--- src/lib.rt:71:5
+-- src/lib.rt:79:5
 sum16-requires : tie.Need-sum16-requires
 sum16-requires c κs = search needs
 
--- src/lib.rt:65:1
+-- src/lib.rt:73:1
 returns-2 : tie.Need-returns-2
 returns-2 c = c .sum16 .ensures ∙ ap (λ (t : ℤ). wrap (span 2) (summed (c .before .before .args .how) (signed 2 (c .before .before .args .z)) t)) (toZ-ofZ (c .before .before .fits .t)) ∙ ap (wrap (span 2)) (is-summed (c .before .before .args .how) (signed 2 (c .before .before .args .z)) (c .before .before .args .t) (c .before .if1 .left))
 

@@ -14,15 +14,15 @@ use Rattle.vecint.proofs.signed_by.Reads as reads
 use Rattle.vecint.proofs.signed_by.Lts as lts
 use Rattle.number.proofs.negated.Reads as negated-reads
 
--- src/lib.rt:52:18
+-- src/lib.rt:60:18
 negated-requires : tie.Need-negated-requires
 negated-requires c κs = search needs
 
--- src/lib.rt:49:1
+-- src/lib.rt:57:1
 returns : tie.Need-returns
 returns c = toZ-ofZ (sfits-of (c .negated .ok)) ∙ c .negated .ensures ∙ ap (λ (x : ℤ). kept 8 (negℤ x)) (toZ-ofZ (c .before .before .fits .t)) ∙ sym (pick-true _ _ (c .before .if1 .taken))
 
--- src/lib.rt:49:1
+-- src/lib.rt:57:1
 returns-2 : tie.Need-returns-2
 returns-2 c = toZ-ofZ (c .before .fits .t) ∙ sym (pick-false _ _ (c .if1 .left))
 

@@ -17,27 +17,27 @@ use Rattle.number.proofs.wrapped16.Reads as wrapped16-reads
 use Rattle.std.proofs.num.wrapping_add_u16.Reads as wrapping-add-u16-reads
 use Rattle.std.proofs.num.wrapping_sub_u16.Reads as wrapping-sub-u16-reads
 
--- src/lib.rt:26:9
+-- src/lib.rt:34:9
 wrapped16-requires : tie.Need-wrapped16-requires
 wrapped16-requires c κs = search needs
 
--- src/lib.rt:28:9
+-- src/lib.rt:36:9
 returns : tie.Need-returns
 returns c = in-place (c .before .before .before .args .how) 2 (c .before .before .before .args .z) (c .before .before .before .args .t) 0 (c .before .before .wrapped16 .result) (c .before .before .wrapped16 .ensures ∙ ap (wrap (span 2)) (toZ-ofZ (c .before .before .before .fits .t))) (c .if1 .taken)
 
--- src/lib.rt:31:9
+-- src/lib.rt:39:9
 wrapping-sub-u16-requires : tie.Need-wrapping-sub-u16-requires
 wrapping-sub-u16-requires c κs = search needs
 
--- src/lib.rt:31:9
+-- src/lib.rt:39:9
 returns-2 : tie.Need-returns-2
 returns-2 c = taken-from (c .before .before .before .before .before .args .how) 2 (c .before .before .before .before .before .args .z) (c .before .before .before .before .before .args .t) (c .wrapping-sub-u16 .result) (c .before .before .before .before .wrapped16 .result) (c .before .before .before .before .wrapped16 .ensures ∙ ap (wrap (span 2)) (toZ-ofZ (c .before .before .before .before .before .fits .t))) (c .before .before .if1 .left) (c .before .if2 .taken) (omega arith) (c .wrapping-sub-u16 .ensures)
 
--- src/lib.rt:33:5
+-- src/lib.rt:41:5
 wrapping-add-u16-requires : tie.Need-wrapping-add-u16-requires
 wrapping-add-u16-requires c κs = search needs
 
--- src/lib.rt:23:1
+-- src/lib.rt:31:1
 returns-3 : tie.Need-returns-3
 returns-3 c = added-to (c .before .before .before .before .before .args .how) 2 (c .before .before .before .before .before .args .z) (c .before .before .before .before .before .args .t) (c .wrapping-add-u16 .result) (c .before .before .before .before .wrapped16 .result) (c .before .before .before .before .wrapped16 .ensures ∙ ap (wrap (span 2)) (toZ-ofZ (c .before .before .before .before .before .fits .t))) (c .before .before .if1 .left) (c .before .if2 .left) (c .wrapping-add-u16 .ensures)
 

@@ -17,27 +17,27 @@ use Rattle.number.proofs.wrapped32.Reads as wrapped32-reads
 use Rattle.std.proofs.num.wrapping_add_u32.Reads as wrapping-add-u32-reads
 use Rattle.std.proofs.num.wrapping_sub_u32.Reads as wrapping-sub-u32-reads
 
--- src/lib.rt:39:9
+-- src/lib.rt:47:9
 wrapped32-requires : tie.Need-wrapped32-requires
 wrapped32-requires c κs = search needs
 
--- src/lib.rt:41:9
+-- src/lib.rt:49:9
 returns : tie.Need-returns
 returns c = in-place (c .before .before .before .args .how) 4 (c .before .before .before .args .z) (c .before .before .before .args .t) 0 (c .before .before .wrapped32 .result) (c .before .before .wrapped32 .ensures ∙ ap (wrap (span 4)) (toZ-ofZ (c .before .before .before .fits .t))) (c .if1 .taken)
 
--- src/lib.rt:44:9
+-- src/lib.rt:52:9
 wrapping-sub-u32-requires : tie.Need-wrapping-sub-u32-requires
 wrapping-sub-u32-requires c κs = search needs
 
--- src/lib.rt:44:9
+-- src/lib.rt:52:9
 returns-2 : tie.Need-returns-2
 returns-2 c = taken-from (c .before .before .before .before .before .args .how) 4 (c .before .before .before .before .before .args .z) (c .before .before .before .before .before .args .t) (c .wrapping-sub-u32 .result) (c .before .before .before .before .wrapped32 .result) (c .before .before .before .before .wrapped32 .ensures ∙ ap (wrap (span 4)) (toZ-ofZ (c .before .before .before .before .before .fits .t))) (c .before .before .if1 .left) (c .before .if2 .taken) (omega arith) (c .wrapping-sub-u32 .ensures)
 
--- src/lib.rt:46:5
+-- src/lib.rt:54:5
 wrapping-add-u32-requires : tie.Need-wrapping-add-u32-requires
 wrapping-add-u32-requires c κs = search needs
 
--- src/lib.rt:36:1
+-- src/lib.rt:44:1
 returns-3 : tie.Need-returns-3
 returns-3 c = added-to (c .before .before .before .before .before .args .how) 4 (c .before .before .before .before .before .args .z) (c .before .before .before .before .before .args .t) (c .wrapping-add-u32 .result) (c .before .before .before .before .wrapped32 .result) (c .before .before .before .before .wrapped32 .ensures ∙ ap (wrap (span 4)) (toZ-ofZ (c .before .before .before .before .before .fits .t))) (c .before .before .if1 .left) (c .before .if2 .left) (c .wrapping-add-u32 .ensures)
 

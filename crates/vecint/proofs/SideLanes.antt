@@ -1,0 +1,185 @@
+-- The lanes of X and Y that a vector uses, as the code reads them.
+-- Assumes nothing.
+use mathlib.Core.Path.{_≡_, refl, sym, ap, ap₂, _∙_, subst}
+use mathlib.Core.Bool.{Bool, true, false, cond, _&&_, _||_}
+use mathlib.Core.Bool as B
+use mathlib.Core.List.{List}
+use Prim.Native.Nat.{ℕ, zero, suc, _+_, _*_, _/_, _%_, _≤_, _<_}
+use native.Mathlib.Nat.{zero-add, zero-mod}
+use mathlib.Core.Logic.{_⊎_, inl, inr}
+use native.Mathlib.Omega.{arith}
+use lib.Dec.{eqb}
+use lib.IntN.{ℤ, pos}
+use lib.ListN.{getD, take}
+use lib.Pow.{pow-pos}
+use lib.Seq.{getD-take}
+use Rattle.number.specs.Bytes.{span, byteAt, number, table}
+use Rattle.number.specs.Integers.{signed, read}
+use Rattle.number.proofs.Bytes.{getD-table, number-same}
+use Rattle.number.proofs.Range.{signed-low}
+use Rattle.isa.specs.Operand.{bits, bit}
+use Rattle.isa.specs.State.{xBase, yBase, lanesOf, loaded}
+use Rattle.isa.specs.Vecint as Vecint
+use Rattle.operand.proofs.Widths.{by-widths, lanes-dealt, narrower-cases}
+use Rattle.sides.specs.Sides.{laneOf, laneBytes, indexOf, sideOf}
+use Rattle.sides.proofs.Elements.{side-at}
+use Rattle.vecint.specs.Vectors.{vectorLanes, fixedY, laneY}
+
+-- ---- a lane of the bytes loaded
+
+no-bytes : (b p : ℕ) → number b (λ i. 0) p ≡ 0
+unfolding number
+no-bytes zero p = refl
+no-bytes (suc b) p = omega (arith, no-bytes b (suc p))
+
+read-nothing : (sign : Bool) (b : ℕ) → read sign b 0 ≡ pos 0
+read-nothing true b = signed-low b 0 (pow-pos (8 * b))
+read-nothing false b = refl
+
+module _ (sign ov : Bool) (b j : ℕ) (f g : ℕ → ℕ) (inside : b * j + b ≤ 64) (same : (i : ℕ) → i < 64 → f i ≡ g i) where
+  in-table : (h : ℕ → ℕ) (i : ℕ) → i < 64 → byteAt (table h 0 64) i ≡ h i
+  in-table h i l = getD-table h 0 0 64 i l ∙ ap h (zero-add i)
+
+  -- 0 where the side is left out
+  lane-read : (skip : Bool)
+      → laneOf sign b (table (λ i. cond (cond skip true ov) 0 (f i)) 0 64) j ≡ cond skip (pos 0) (read sign b (number b (λ i. cond ov 0 (g i)) (b * j)))
+  unfolding laneOf
+  lane-read true =
+      ap (read sign b)
+      (number-same b (byteAt (table (λ i. 0) 0 64)) (λ i. 0) (b * j) (λ k l. in-table (λ i. 0) (b * j + k) (omega arith)) ∙ no-bytes b (b * j))
+      ∙ read-nothing sign b
+  lane-read false =
+      ap (read sign b)
+      (number-same b (byteAt (table (λ i. cond ov 0 (f i)) 0 64)) (λ i. cond ov 0 (g i)) (b * j)
+      (λ k l. in-table (λ i. cond ov 0 (f i)) (b * j + k) (omega arith) ∙ ap (λ (x : ℕ). cond ov 0 x) (same (b * j + k) (omega arith))))
+
+-- ---- which lane, by the widths
+
+-- a side of b bytes beside one of other bytes, where n is the narrower
+record Sided (b other n : ℕ) : Type 0 where
+  bytes : laneBytes (eqb b 2) ≡ b
+  index : (k : ℕ) → cond (eqb b 2 && eqb other 1) (k / 2) k ≡ k / (b / n)
+  inside : (k : ℕ) → k < lanesOf n → b * (k / (b / n)) + b ≤ 64
+  any : (l : ℕ) → b * (l % lanesOf b) + b ≤ 64
+
+both-2 : Sided 2 2 2
+both-2 = record { bytes = refl; index = λ k. omega arith; inside = λ k h. omega arith; any = λ l. omega arith }
+
+both-1 : Sided 1 1 1
+both-1 = record { bytes = refl; index = λ k. omega arith; inside = λ k h. omega arith; any = λ l. omega arith }
+
+narrow : Sided 1 2 1
+narrow = record { bytes = refl; index = λ k. omega arith; inside = λ k h. omega arith; any = λ l. omega arith }
+
+wider : Sided 2 1 1
+wider = record { bytes = refl; index = λ k. refl; inside = λ k h. omega arith; any = λ l. omega arith }
+
+x-sided : (op : ℕ) → Sided (Vecint.widths op .x) (Vecint.widths op .y) (Vecint.narrower (Vecint.widths op))
+x-sided = by-widths (λ w. Sided (w .x) (w .y) (Vecint.narrower w)) both-2 both-2 both-1 both-1 narrow wider
+
+y-sided : (op : ℕ) → Sided (Vecint.widths op .y) (Vecint.widths op .x) (Vecint.narrower (Vecint.widths op))
+y-sided = by-widths (λ w. Sided (w .y) (w .x) (Vecint.narrower w)) both-2 both-2 both-1 both-1 wider narrow
+
+-- the lane that the code uses
+abbrev lane-used : Bool → ℕ → ℕ → ℕ → ℕ → ℕ
+lane-used fixed lane b n k = cond fixed (lane % lanesOf b) (k / (b / n))
+
+used-inside : (b other n : ℕ) → Sided b other n → (fixed : Bool) (lane k : ℕ) → k < lanesOf n → b * lane-used fixed lane b n k + b ≤ 64
+used-inside b other n s true lane k h = s .any lane
+used-inside b other n s false lane k h = s .inside k h
+
+side-lane : (b other n : ℕ) → Sided b other n → (sign skip ov fixed : Bool) (lane k : ℕ) (f g : ℕ → ℕ) → k < lanesOf n → ((i : ℕ) → i < 64 → f i ≡ g i)
+    → laneOf sign (laneBytes (eqb b 2)) (table (λ i. cond (cond skip true ov) 0 (f i)) 0 64) (indexOf (eqb b 2) fixed lane (eqb other 1) k)
+    ≡ cond skip (pos 0) (read sign b (number b (λ i. cond ov 0 (g i)) (b * lane-used fixed lane b n k)))
+unfolding indexOf
+side-lane b other n s sign skip ov fixed lane k f g h same =
+    (λ t. laneOf sign (s .bytes t) (table (λ i. cond (cond skip true ov) 0 (f i)) 0 64) (cond fixed (lane % (64 / s .bytes t)) (s .index k t)))
+    ∙ lane-read sign ov b (lane-used fixed lane b n k) f g (used-inside b other n s fixed lane k h) same skip
+
+-- ---- X and Y
+
+-- the lane of Y, by whether there are several vectors, broadcast mode 7 and enable mode 1
+by-several : (several seven one : Bool) (value lanes k : ℕ)
+    → cond (cond several seven one) (cond several 0 value % lanes) k
+    ≡ cond (several && (seven || seven)) 0 (cond (B.not several && one) (value % lanes) k)
+by-several true true one value lanes k = zero-mod lanes
+by-several true false one value lanes k = refl
+by-several false seven one value lanes k = refl
+
+-- the bytes loaded lie in X and Y
+of-xy : (s : List ℕ) (base offset i : ℕ) → base ≤ 512 → loaded s base offset i ≡ loaded (take 1024 s) base offset i
+of-xy s base offset i h = sym (getD-take 1024 s (base + (offset + i) % 512) 0 (omega arith))
+
+module _ (gen op : ℕ) (s : List ℕ) (v : ℕ) (skip : Bool) (not : Vecint.reduces op ≡ false) (k : ℕ) (hk : k < vectorLanes op) where
+  in-side : k < lanesOf (Vecint.narrower (Vecint.widths op))
+  in-side = subst (λ (n : ℕ). k < n) (lanes-dealt op not) hk
+
+  in-list : k < 64
+  in-list = few (narrower-cases op) in-side
+    where
+      few : {n : ℕ} → (n ≡ 1) ⊎ (n ≡ 2) → k < lanesOf n → k < 64
+      few (inl e) h = omega (arith, subst (λ (n : ℕ). k < lanesOf n) e h)
+      few (inr e) h = omega (arith, subst (λ (n : ℕ). k < lanesOf n) e h)
+
+  module _ (wide sign fixed halved bl : Bool) (lane from : ℕ) (xs : List ℤ) (bytes : List ℕ) (ex : xs ≡ sideOf wide sign bytes fixed lane halved) where
+    pub x-lanes : bytes ≡ table (λ i. cond bl 0 (loaded s xBase from i)) 0 64 → bl ≡ cond skip true (Vecint.overrides gen op 4 4)
+        → from ≡ bits op 10 18 + cond (Vecint.broadcasts gen op 2 6) 0 (64 * v)
+        → wide ≡ eqb (Vecint.widths op .x) 2 → halved ≡ eqb (Vecint.widths op .y) 1 → sign ≡ bit op 63 → fixed ≡ Vecint.broadcasts gen op 6 6 → lane ≡ 0
+        → getD xs k (pos 0) ≡ cond skip (pos 0) (Vecint.xOf gen op (take 1024 s) v k)
+    unfolding Vecint.xOf Vecint.xBytes Vecint.xIndex
+    x-lanes eb el ef ew eh es efx e0 =
+        (λ t. getD (ex t) k (pos 0))
+        ∙ (λ t. getD (sideOf (ew t) (es t) (loads t) (efx t) (e0 t) (eh t)) k (pos 0))
+        ∙ side-at (eqb b 2) (bit op 63) (table (λ i. cond (cond skip true ov) 0 (loaded s xBase off i)) 0 64) fx 0 (eqb (Vecint.widths op .y) 1) k in-list
+        ∙ side-lane b (Vecint.widths op .y) n (x-sided op) (bit op 63) skip ov fx 0 k (loaded s xBase off) (loaded (take 1024 s) xBase off) in-side (λ i l. of-xy s xBase off i (omega arith))
+        ∙ ap (λ (j : ℕ). cond skip (pos 0) (read (bit op 63) b (number b (λ i. cond ov 0 (loaded (take 1024 s) xBase off i)) (b * cond fx j (k / (b / n)))))) (zero-mod (lanesOf b))
+      where
+        b : ℕ
+        b = Vecint.widths op .x
+
+        n : ℕ
+        n = Vecint.narrower (Vecint.widths op)
+
+        ov : Bool
+        ov = Vecint.overrides gen op 4 4
+
+        fx : Bool
+        fx = Vecint.broadcasts gen op 6 6
+
+        off : ℕ
+        off = bits op 10 18 + cond (Vecint.broadcasts gen op 2 6) 0 (64 * v)
+
+        loads : bytes ≡ table (λ i. cond (cond skip true ov) 0 (loaded s xBase off i)) 0 64
+        loads = eb ∙ (λ t. table (λ i. cond (el t) 0 (loaded s xBase (ef t) i)) 0 64)
+
+    pub y-lanes : bytes ≡ table (λ i. cond bl 0 (loaded s yBase from i)) 0 64 → bl ≡ cond skip true (Vecint.overrides gen op 5 5)
+        → from ≡ bits op 0 8 + cond (Vecint.broadcasts gen op 3 7) 0 (64 * v)
+        → wide ≡ eqb (Vecint.widths op .y) 2 → halved ≡ eqb (Vecint.widths op .x) 1 → sign ≡ bit op 26 → fixed ≡ fixedY gen op → lane ≡ laneY gen op
+        → getD xs k (pos 0) ≡ cond skip (pos 0) (Vecint.yOf gen op (take 1024 s) v k)
+    unfolding Vecint.yOf Vecint.yBytes Vecint.yIndex
+    y-lanes eb el ef ew eh es efx e0 =
+        (λ t. getD (ex t) k (pos 0))
+        ∙ (λ t. getD (sideOf (ew t) (es t) (loads t) (efx t) (e0 t) (eh t)) k (pos 0))
+        ∙ side-at (eqb b 2) (bit op 26) (table (λ i. cond (cond skip true ov) 0 (loaded s yBase off i)) 0 64) (fixedY gen op) (laneY gen op) (eqb (Vecint.widths op .x) 1) k in-list
+        ∙ side-lane b (Vecint.widths op .x) n (y-sided op) (bit op 26) skip ov (fixedY gen op) (laneY gen op) k (loaded s yBase off) (loaded (take 1024 s) yBase off) in-side (λ i l. of-xy s yBase off i (omega arith))
+        ∙ ap (λ (j : ℕ). cond skip (pos 0) (read (bit op 26) b (number b (λ i. cond ov 0 (loaded (take 1024 s) yBase off i)) (b * j)))) used
+      where
+        b : ℕ
+        b = Vecint.widths op .y
+
+        n : ℕ
+        n = Vecint.narrower (Vecint.widths op)
+
+        ov : Bool
+        ov = Vecint.overrides gen op 5 5
+
+        off : ℕ
+        off = bits op 0 8 + cond (Vecint.broadcasts gen op 3 7) 0 (64 * v)
+
+        loads : bytes ≡ table (λ i. cond (cond skip true ov) 0 (loaded s yBase off i)) 0 64
+        loads = eb ∙ (λ t. table (λ i. cond (el t) 0 (loaded s yBase (ef t) i)) 0 64)
+
+        used : lane-used (fixedY gen op) (laneY gen op) b n k ≡ Vecint.yIndex gen op k
+        used =
+            unfold Vecint.yIndex Vecint.broadcasts in
+            by-several (Vecint.several gen op) (eqb (Vecint.broadcastMode op) 7) (eqb (Vecint.enableMode op) 1) (Vecint.enableValue op) (lanesOf b) (k / (b / n))

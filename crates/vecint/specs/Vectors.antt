@@ -1,0 +1,50 @@
+-- A step as its vectors, each with the rows that its lanes are dealt to.
+-- Assumes nothing.
+use mathlib.Core.Path.{_≡_}
+use mathlib.Core.Bool.{Bool, cond, not, _||_, _&&_}
+use mathlib.Core.List.{List}
+use Prim.Native.Nat.{ℕ, _+_, _*_, _/_, _%_, _<_}
+use lib.Dec.{eqb}
+use lib.IntN.{ℤ, pos}
+use lib.ListN.{take, getD}
+use Rattle.number.specs.Bytes.{span}
+use Rattle.number.specs.Integers.{wrap}
+use Rattle.isa.specs.State.{zBase, lanesOf}
+use Rattle.isa.specs.Effect.{Effect}
+use Rattle.isa.specs.Vecint as Vecint
+use Rattle.state.specs.Rows.{dealt}
+use Rattle.vecint.specs.declared.Alu.{Alu}
+use Rattle.vecint.specs.Modes.{termBy}
+
+-- the first of the rows that vector v writes
+abbrev pub firstRow : ℕ → ℕ → ℕ → ℕ
+firstRow gen op v = v * Vecint.stride gen op + Vecint.zRow op % Vecint.stride gen op / Vecint.rowsEach op * Vecint.rowsEach op
+
+-- the lanes of a vector
+abbrev pub vectorLanes : ℕ → ℕ
+vectorLanes op = Vecint.rowsEach op * lanesOf (Vecint.zWidth op)
+
+-- what vector v does on a state
+abbrev pub vectorEffect : ℕ → ℕ → ℕ → List ℕ → Effect
+vectorEffect gen op v s =
+    dealt (Vecint.zWidth op) (firstRow gen op v) (Vecint.rowsEach op)
+    (λ k. Vecint.several gen op || Vecint.masked op k)
+    (λ k z. wrap (span (Vecint.zWidth op)) (Vecint.result gen op (take zBase s) v k z))
+
+-- the lane of Y that is used for every lane, if one is
+abbrev pub fixedY : ℕ → ℕ → Bool
+fixedY gen op = cond (Vecint.several gen op) (eqb (Vecint.broadcastMode op) 7) (eqb (Vecint.enableMode op) 1)
+
+abbrev pub laneY : ℕ → ℕ → ℕ
+laneY gen op = cond (Vecint.several gen op) 0 (Vecint.enableValue op)
+
+-- a list that has the lanes of X that vector v uses, or 0 where X is left out; the same for Y; and the terms
+abbrev pub HoldsX : ℕ → ℕ → List ℕ → ℕ → Bool → List ℤ → Type 0
+HoldsX gen op s v skip xs = (k : ℕ) → k < vectorLanes op → getD xs k (pos 0) ≡ cond skip (pos 0) (Vecint.xOf gen op (take zBase s) v k)
+
+abbrev pub HoldsY : ℕ → ℕ → List ℕ → ℕ → Bool → List ℤ → Type 0
+HoldsY gen op s v skip ys = (k : ℕ) → k < vectorLanes op → getD ys k (pos 0) ≡ cond skip (pos 0) (Vecint.yOf gen op (take zBase s) v k)
+
+abbrev pub HoldsTerms : ℕ → ℕ → List ℕ → ℕ → Alu → List ℤ → Type 0
+HoldsTerms gen op s v how ts =
+    (k : ℕ) → k < vectorLanes op → getD ts k (pos 0) ≡ termBy how (Vecint.shift op) (Vecint.xOf gen op (take zBase s) v k) (Vecint.yOf gen op (take zBase s) v k)
