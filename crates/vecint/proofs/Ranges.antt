@@ -1,0 +1,114 @@
+-- Lanes of X and Y and their terms are far from the ends of an i64, so that the saturating modes keep all of a sum.
+-- Assumes nothing.
+use mathlib.Core.Path.{_≡_, refl, sym, ap, ap₂, _∙_, subst}
+use mathlib.Core.Bool.{Bool, true, false, cond}
+use mathlib.Core.List.{List}
+use mathlib.Core.Logic.{_⊎_, inl, inr}
+use Prim.Native.Nat.{ℕ, zero, suc, _+_, _*_, _%_, _^_, _≤_, _<_}
+use native.Mathlib.Omega.{arith}
+use lib.IntN.{ℤ, pos, negsuc, negℤ, _+ℤ_, _*ℤ_}
+use lib.ListN.{take}
+use lib.Pow.{pow-pos}
+use lib.Seq.{getD-take}
+use lib.Signed.{mag, mag-shr}
+use Rattle.number.specs.Bytes.{span, byteAt, number}
+use Rattle.number.specs.Integers.{signed, read, kept, clampSigned}
+use Rattle.number.proofs.Range.{kept-same, mag-add, mag-mul, mag-signed}
+use Rattle.number.proofs.Tests.{two, pick-true, pick-false}
+use Rattle.isa.specs.Operand.{bits, bit}
+use Rattle.isa.specs.State.{xBase, yBase, loaded}
+use Rattle.isa.specs.Vecint as Vecint
+use Rattle.operand.proofs.Widths.{x-cases, y-cases}
+use Rattle.sides.specs.Sides.{termOf}
+use Rattle.state.proofs.Holds.{Bytes}
+use Rattle.state.proofs.RunLoop.{number-lt}
+use Rattle.vecint.specs.declared.Alu.{Alu}
+use Rattle.vecint.specs.Accumulation.{summed, clampedSum, accumulated}
+use Rattle.vecint.specs.Modes.{termBy, outcome}
+
+-- ---- sums that are kept whole
+
+mag-neg : (v : ℤ) {n : ℕ} → mag v < n → mag (negℤ v) < suc n
+mag-neg (pos zero) h = omega arith
+mag-neg (pos (suc n)) h = omega arith
+mag-neg (negsuc n) h = omega arith
+
+abbrev Small : ℤ → Type 0
+Small v = mag v < 2 ^ 40
+
+module _ (z t : ℤ) (hz : Small z) (ht : Small t) where
+  turned : kept 8 (negℤ t) ≡ negℤ t
+  turned = kept-same 8 (negℤ t) (omega (arith, mag-neg t ht))
+
+  whole : (keeps negates : Bool) → cond keeps (kept 8 (z +ℤ cond negates (kept 8 (negℤ t)) t)) t ≡ cond keeps (z +ℤ cond negates (negℤ t) t) t
+  whole false negates = refl
+  whole true false = kept-same 8 (z +ℤ t) (omega (arith, mag-add z t hz ht))
+  whole true true =
+      ap (λ (u : ℤ). kept 8 (z +ℤ u)) turned
+      ∙ kept-same 8 (z +ℤ negℤ t) (omega (arith, mag-add z (negℤ t) hz (mag-neg t ht)))
+
+-- what the code does with a term is the outcome
+pub outcome-is : (wide : Bool) (how : Alu) (z t : ℤ) → (how .clamps ≡ true → wide ≡ false) → Small z → Small t → accumulated wide how z t ≡ outcome how z t
+unfolding accumulated outcome clampedSum summed
+outcome-is true how z t narrow hz ht =
+    two (how .clamps) (accumulated true how z t ≡ outcome how z t)
+    (λ c. absurd (subst (λ (b : Bool). cond b (ℤ) ⊥) (narrow c) (pos 0)))
+    (λ c. sym (pick-false _ _ c))
+outcome-is false how z t narrow hz ht =
+    ap (λ (v : ℤ). cond (how .clamps) (clampSigned 2 v) (summed how z t)) (whole z t hz ht (how .keeps) (how .negates))
+
+-- ---- lanes and terms
+
+mag-read : (sign : Bool) (b n : ℕ) → n < span b → mag (read sign b n) < span b
+mag-read true b n h = omega (arith, mag-signed b n h)
+mag-read false b n h = h
+
+two-bytes : {b : ℕ} → (b ≡ 1) ⊎ (b ≡ 2) → (sign : Bool) (n : ℕ) → n < span b → mag (read sign b n) < 65536
+two-bytes {b} (inl e) sign n h = omega (arith, mag-read sign b n h, ap span e)
+two-bytes {b} (inr e) sign n h = omega (arith, mag-read sign b n h, ap span e)
+
+module _ (gen op : ℕ) (s : List ℕ) (v k : ℕ) (small : Bytes s) where
+  loaded-lt : (base offset i : ℕ) → base ≤ 512 → loaded (take 1024 s) base offset i < 256
+  loaded-lt base offset i h =
+      subst (λ (x : ℕ). x < 256) (sym (getD-take 1024 s (base + (offset + i) % 512) 0 (omega arith))) (small (base + (offset + i) % 512))
+
+  blank-lt : (b : Bool) {x : ℕ} → x < 256 → cond b 0 x < 256
+  blank-lt true h = omega arith
+  blank-lt false h = h
+
+  pub x-small : mag (Vecint.xOf gen op (take 1024 s) v k) < 65536
+  unfolding Vecint.xOf Vecint.xBytes
+  x-small =
+      two-bytes (x-cases op) (bit op 63) _
+      (number-lt (Vecint.widths op .x) (Vecint.xBytes gen op (take 1024 s) v) _ (λ i. blank-lt (Vecint.overrides gen op 4 4) (loaded-lt xBase _ i (omega arith))))
+
+  pub y-small : mag (Vecint.yOf gen op (take 1024 s) v k) < 65536
+  unfolding Vecint.yOf Vecint.yBytes
+  y-small =
+      two-bytes (y-cases op) (bit op 26) _
+      (number-lt (Vecint.widths op .y) (Vecint.yBytes gen op (take 1024 s) v) _ (λ i. blank-lt (Vecint.overrides gen op 5 5) (loaded-lt yBase _ i (omega arith))))
+
+skip-small : (skip : Bool) (x : ℤ) → mag x < 65536 → mag (cond skip (pos 0) x) < 65536
+skip-small true x h = omega arith
+skip-small false x h = h
+
+pub term-small : (how : Alu) (s : ℕ) (x y : ℤ) → mag x < 65536 → mag y < 65536 → Small (termBy how s x y)
+unfolding termOf
+term-small how s x y hx hy =
+    let made : mag (cond (how .sums) (x′ +ℤ y′) (x′ *ℤ y′)) < 2 ^ 33 = by (how .sums) in
+    let all : mag (cond (how .sums) (x′ +ℤ y′) (x′ *ℤ y′) +ℤ cond (how .clamps) (pos 16384) (pos 0)) < 2 ^ 33 + 16385 = mag-add (cond (how .sums) (x′ +ℤ y′) (x′ *ℤ y′)) (cond (how .clamps) (pos 16384) (pos 0)) made (half (how .clamps)) in
+    omega (arith, all, mag-shr (cond (how .sums) (x′ +ℤ y′) (x′ *ℤ y′) +ℤ cond (how .clamps) (pos 16384) (pos 0)) (2 ^ s))
+  where
+    x′ : ℤ
+    x′ = cond (how .skipx) (pos 0) x
+
+    y′ : ℤ
+    y′ = cond (how .skipy) (pos 0) y
+
+    by : (b : Bool) → mag (cond b (x′ +ℤ y′) (x′ *ℤ y′)) < 2 ^ 33
+    by true = omega (arith, mag-add x′ y′ (skip-small (how .skipx) x hx) (skip-small (how .skipy) y hy))
+    by false = omega (arith, mag-mul x′ y′ (skip-small (how .skipx) x hx) (skip-small (how .skipy) y hy))
+
+    half : (b : Bool) → mag (cond b (pos 16384) (pos 0)) < 16385
+    half true = omega arith
+    half false = omega arith
