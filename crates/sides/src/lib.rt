@@ -4,6 +4,7 @@ ghost use mathlib.Core.Bool.{cond};
 ghost use Prim.Native.Nat.{_/_, _%_, _≤_, _^_};
 ghost use lib.Dec.{ltb};
 ghost use lib.IntN.{pos, _+ℤ_, _*ℤ_};
+ghost use lib.ListN.{getD};
 ghost use lib.Signed.{mag};
 ghost use Rattle.number.specs.Bytes.{table};
 ghost use Rattle.sides.specs.Sides.{laneOf, laneBytes, sideOf, termOf, termsOf};
@@ -32,13 +33,23 @@ fn lanes16(bytes: [u8; 64], sign: bool) -> [i32; 64]
     out
 }
 
-// The 32 lanes of two bytes, each twice.
-fn twice16(bytes: &[u8; 64], sign: bool) -> [i32; 64]
-    ensures { λ r. ⌜ r ≡ table (λ k. laneOf sign 2 (now (bytes .entry)) (k / 2)) 0 64 ⌝ }
+// The same lanes alone, and each of them twice: in two steps, so that the compiler does several lanes at a time.
+fn half16(bytes: &[u8; 64], sign: bool) -> [i32; 32]
+    ensures { λ r. ⌜ r ≡ table (laneOf sign 2 (now (bytes .entry))) 0 32 ⌝ }
+{
+    let mut out = [0i32; 32];
+    for i in 0..32 {
+        out[i] = number::read16(sign, number::pair(bytes[2 * i], bytes[2 * i + 1]));
+    }
+    out
+}
+
+fn twice(xs: &[i32; 32]) -> [i32; 64]
+    ensures { λ r. ⌜ r ≡ table (λ k. getD (now (xs .entry)) (k / 2) (pos 0)) 0 64 ⌝ }
 {
     let mut out = [0i32; 64];
     for i in 0..32 {
-        let v = number::read16(sign, number::pair(bytes[2 * i], bytes[2 * i + 1]));
+        let v = xs[i];
         out[2 * i] = v;
         out[2 * i + 1] = v;
     }
@@ -86,7 +97,8 @@ pub fn side(
         return lanes8(bytes, sign);
     }
     if halved {
-        return twice16(bytes, sign);
+        let xs = half16(bytes, sign);
+        return twice(&xs);
     }
     lanes16(*bytes, sign)
 }
