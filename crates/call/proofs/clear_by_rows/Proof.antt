@@ -5,15 +5,15 @@ use borrow.Author.Needs.{needs}
 use Rattle.call.proofs.clear_by_rows.Statement.{statement}
 use Rattle.call.proofs.clear_by_rows.Tie as tie
 
--- src/lib.rt:197:9
+-- src/lib.rt:188:9
 clear-if-requires : tie.Need-clear-if-requires
 clear-if-requires c κs = search needs
 
--- src/lib.rt:198:5
+-- src/lib.rt:189:5
 clear-if-requires-2 : tie.Need-clear-if-requires-2
 clear-if-requires-2 c κs = search needs
 
--- src/lib.rt:194:1
+-- src/lib.rt:185:1
 returns : tie.Need-returns
 returns c = next-if 20 21 {on = eqb (c .before .before .args .rows) 4} (c .clear-if2 .ensures) refl (c .before .clear-if .ensures)
 
