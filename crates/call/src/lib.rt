@@ -1,0 +1,223 @@
+// What a call is answered before it is run, and its normal operand. Every function takes every argument.
+ghost use mathlib.Core.Path.{_≡_};
+ghost use mathlib.Core.Bool.{cond, not, _||_};
+ghost use lib.Dec.{eqb};
+ghost use Rattle.isa.specs.declared.Answer.the-variants.{Done};
+ghost use Rattle.isa.specs.Operand.{bit, cleared};
+ghost use Rattle.isa.specs.Vecint as Vecint;
+ghost use Rattle.isa.specs.Call.{call};
+ghost use Rattle.isa.specs.Answers.{rowsAbove, firstOf};
+ghost use Rattle.isa.specs.Normal.{ignoredByAll, mac16Ignored, vecintIgnored, clearedAll, normalOperand, normalOf};
+ghost use Rattle.call.specs.Parts.{reservedMode, laterMode, notCovered, vecintAnswer, ignoredAlways, ignoredByVectors, ignoredByMode, ignoredByRows};
+
+// ---- answers
+
+fn neither(n: u64, a: u64, b: u64) -> bool
+    ensures { λ r. ⌜ r ≡ not (eqb n a || eqb n b) ⌝ }
+{
+    if n == a {
+        return false;
+    }
+    n != b
+}
+
+// ALU modes 7, 8, 9 and above 12.
+fn reserved_mode(mode: u64) -> bool
+    ensures { λ r. ⌜ r ≡ reservedMode mode ⌝ }
+{
+    if mode < 7 {
+        return false;
+    }
+    if mode <= 9 {
+        return true;
+    }
+    13 <= mode
+}
+
+// ALU modes 10, 11 and 12 on generation 1.
+fn later_mode(generation: u64, mode: u64) -> bool
+    ensures { λ r. ⌜ r ≡ laterMode generation mode ⌝ }
+{
+    if mode < 10 {
+        return false;
+    }
+    if 12 < mode {
+        return false;
+    }
+    generation == 1
+}
+
+// Bit 53 set, or bits 27 to 30 not all 0 outside mode 4.
+fn not_covered(op: u64) -> bool
+    ensures { λ r. ⌜ r ≡ notCovered op ⌝ }
+{
+    if operand::flag(op, 53) {
+        return true;
+    }
+    if operand::alu_mode(op) == 4 {
+        return false;
+    }
+    operand::field(op, 27, 30) != 0
+}
+
+fn vecint_answered(generation: u64, op: u64) -> isa::Answer
+    ensures { λ r. ⌜ r ≡ vecintAnswer generation op ⌝ }
+{
+    if operand::field(op, 54, 56) != 0 {
+        return isa::Answer::NoOp(isa::Reason::ReservedBits);
+    }
+    let mode = operand::alu_mode(op);
+    if reserved_mode(mode) {
+        return isa::Answer::NoOp(isa::Reason::ReservedMode);
+    }
+    if later_mode(generation, mode) {
+        return isa::Answer::NoOp(isa::Reason::LaterGeneration);
+    }
+    if not_covered(op) {
+        return isa::Answer::Refused(isa::Refusal::NotCovered);
+    }
+    isa::Answer::Done(0)
+}
+
+// The first row of the table that applies, for a state of so many bytes; a count of 0 where the step is done.
+pub fn answered(length: usize, instruction: u64, generation: u64, operand: u64) -> isa::Answer
+    ensures { λ r. ⌜ r ≡ firstOf (rowsAbove length (call instruction generation operand)) (Done 0) ⌝ }
+{
+    if length != 5120 {
+        return isa::Answer::Refused(isa::Refusal::StateLength);
+    }
+    if neither(generation, 1, 2) {
+        return isa::Answer::Refused(isa::Refusal::Generation);
+    }
+    if neither(instruction, 14, 18) {
+        return isa::Answer::Refused(isa::Refusal::Instruction);
+    }
+    if instruction == 14 {
+        return isa::Answer::Done(0);
+    }
+    vecint_answered(generation, operand)
+}
+
+// ---- ignored bits
+
+// Bits first to last cleared.
+fn clear(op: u64, first: u32, last: u32) -> u64
+    ensures { λ r. ⌜ r ≡ cleared op first last ⌝ }
+{
+    if 63 < first {
+        return op;
+    }
+    op - (operand::field(op, first, last) << first)
+}
+
+fn clear_if(on: bool, op: u64, first: u32, last: u32) -> u64
+    ensures { λ r. ⌜ r ≡ cond on (cleared op first last) op ⌝ }
+{
+    if on {
+        return clear(op, first, last);
+    }
+    op
+}
+
+// mac16, in all forms.
+fn clear_by_all(op: u64) -> u64
+    ensures { λ r. ⌜ r ≡ clearedAll ignoredByAll op ⌝ }
+{
+    let kept = clear(op, 48, 54);
+    let kept = clear(kept, 39, 40);
+    let kept = clear(kept, 30, 31);
+    let kept = clear(kept, 26, 26);
+    let kept = clear(kept, 19, 19);
+    clear(kept, 9, 9)
+}
+
+// And by its form: vector, matrix 32, matrix 16.
+fn mac16_operand(op: u64) -> u64
+    ensures { λ r. ⌜ r ≡ clearedAll (mac16Ignored op) op ⌝ }
+{
+    let kept = clear_by_all(op);
+    if operand::flag(op, 63) {
+        return clear(clear(kept, 62, 62), 32, 38);
+    }
+    if operand::flag(op, 62) {
+        return clear(kept, 20, 25);
+    }
+    clear(kept, 21, 25)
+}
+
+// vecint, in all modes.
+fn clear_always(op: u64) -> u64
+    ensures { λ r. ⌜ r ≡ clearedAll ignoredAlways op ⌝ }
+{
+    let kept = clear(op, 57, 57);
+    let kept = clear(kept, 46, 46);
+    let kept = clear(kept, 41, 41);
+    let kept = clear(kept, 19, 19);
+    clear(kept, 9, 9)
+}
+
+// By the vectors of the operand as given.
+fn clear_by_vectors(kept: u64, generation: u64, op: u64) -> u64
+    ensures { λ r. ⌜ r ≡ clearedAll (ignoredByVectors (eqb generation 1) (Vecint.several generation op) (bit op 25)) kept ⌝ }
+{
+    let kept = clear_if(generation == 1, kept, 31, 31);
+    if operand::several(generation, op) {
+        let kept = clear(kept, 35, 40);
+        return clear_if(operand::flag(op, 25), kept, 24, 24);
+    }
+    kept
+}
+
+// By its ALU mode.
+fn clear_by_mode(kept: u64, op: u64) -> u64
+    ensures { λ r. ⌜ r ≡ clearedAll (ignoredByMode (Vecint.saturates op) (Vecint.reduces op)) kept ⌝ }
+{
+    let saturates = operand::saturates(op);
+    let kept = clear_if(saturates, kept, 58, 62);
+    let kept = clear_if(saturates, kept, 42, 45);
+    let reduces = operand::reduces(op);
+    let kept = clear_if(reduces, kept, 27, 28);
+    let kept = clear_if(reduces, kept, 10, 18);
+    clear_if(reduces, kept, 0, 8)
+}
+
+// By the rows that a vector is dealt to.
+fn clear_by_rows(kept: u64, rows: usize) -> u64
+    ensures { λ r. ⌜ r ≡ clearedAll (ignoredByRows rows) kept ⌝ }
+{
+    let kept = clear_if(rows == 2, kept, 20, 20);
+    clear_if(rows == 4, kept, 20, 21)
+}
+
+fn vecint_operand(generation: u64, op: u64) -> u64
+    ensures { λ r. ⌜ r ≡ clearedAll (vecintIgnored generation op) op ⌝ }
+{
+    let kept = clear_always(op);
+    let kept = clear_by_vectors(kept, generation, op);
+    let kept = clear_by_mode(kept, op);
+    clear_by_rows(kept, operand::rows_each(op))
+}
+
+fn normal_operand(instruction: u64, generation: u64, op: u64) -> u64
+    ensures { λ r. ⌜ r ≡ normalOperand (call instruction generation op) ⌝ }
+{
+    if instruction == 14 {
+        return mac16_operand(op);
+    }
+    vecint_operand(generation, op)
+}
+
+// The operand with its ignored bits cleared, or the step's own answer where the step isn't done.
+pub fn normal(instruction: u64, generation: u64, operand: u64) -> isa::Normal
+    ensures { λ r. ⌜ r ≡ normalOf (call instruction generation operand) ⌝ }
+{
+    match answered(5120, instruction, generation, operand) {
+        isa::Answer::Done(_) => isa::Normal::Operand(normal_operand(
+            instruction,
+            generation,
+            operand,
+        )),
+        isa::Answer::NoOp(r) => isa::Normal::NoOp(r),
+        isa::Answer::Refused(r) => isa::Normal::Refused(r),
+    }
+}
