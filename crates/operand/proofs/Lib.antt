@@ -4,3 +4,5 @@ pub mod Branches
 pub mod Table
 pub mod Entries
 pub mod Widths
+pub mod Rows
+pub mod Masks

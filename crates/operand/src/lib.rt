@@ -1,10 +1,12 @@
 // The fields of an operand, and the lanes that enable modes enable. Every function takes every argument.
 ghost use mathlib.Core.Path.{_≡_};
-ghost use mathlib.Core.Bool.{false, cond};
-ghost use Prim.Native.Nat.{_<_, _≤_};
+ghost use mathlib.Core.Bool.{false, cond, _||_};
+ghost use Prim.Native.Nat.{_+_, _*_, _/_, _%_, _<_, _≤_};
+ghost use lib.Dec.{eqb, ltb};
 ghost use lib.ListN.{getD};
 ghost use Rattle.number.specs.Bytes.{table};
 ghost use Rattle.isa.specs.Operand.{bits, bit};
+ghost use Rattle.isa.specs.State.{lanesOf};
 ghost use Rattle.isa.specs.Enable as Enable;
 ghost use Rattle.isa.specs.Effect.{count};
 ghost use Rattle.isa.specs.Enable.{byParity, firstOrAll, lastOrAll, mac16Enables, vecintEnables};
@@ -125,6 +127,28 @@ pub fn count32(on: &[bool; 32]) -> u64
         n += one_if(on[i]);
     }
     n
+}
+
+// A number of lanes, of 64 at most.
+fn up_to_64(n: usize) -> usize
+    ensures { λ r. ⌜ (r ≡ cond (ltb n 64) n 64) × (r ≤ 64) ⌝ }
+{
+    if n < 64 {
+        return n;
+    }
+    64
+}
+
+// How many of the first n of 64 lanes are enabled.
+pub fn count_first(on: &[bool; 64], n: usize) -> u64
+    ensures { λ r. ⌜ (r ≡ count (λ i. getD (now (on .entry)) i false) (cond (ltb n 64) n 64)) × (r ≤ 64) ⌝ }
+{
+    let lanes = up_to_64(n);
+    let mut enabled = 0u64;
+    for k in 0..lanes {
+        enabled += one_if(on[k]);
+    }
+    enabled
 }
 
 // ---- vecint: fields
@@ -326,7 +350,7 @@ pub fn saturation_width(op: u64) -> usize
 
 // Of an X or a Y lane, whichever is the narrower.
 fn narrower(op: u64) -> usize
-    ensures { λ r. ⌜ (r ≡ Vecint.narrower (Vecint.widths op)) × (1 ≤ r) ⌝ }
+    ensures { λ r. ⌜ r ≡ Vecint.narrower (Vecint.widths op) ⌝ }
 {
     let x = x_width(op);
     let y = y_width(op);
@@ -343,7 +367,11 @@ pub fn rows_each(op: u64) -> usize
     if reduces(op) {
         return 1;
     }
-    z_width(op) / narrower(op)
+    let z = z_width(op);
+    if narrower(op) == 2 {
+        return z / 2;
+    }
+    z
 }
 
 // The rows from one vector to the next: of four vectors, of two, of one.
@@ -357,4 +385,131 @@ pub fn stride(generation: u64, op: u64) -> usize
         return 32;
     }
     64
+}
+
+// The vectors that a step works on.
+pub fn vectors(generation: u64, op: u64) -> usize
+    ensures { λ r. ⌜ (r ≡ 64 / Vecint.stride generation op) × (r ≤ 4) ⌝ }
+{
+    let rows = stride(generation, op);
+    if rows == 16 {
+        return 4;
+    }
+    if rows == 32 {
+        return 2;
+    }
+    1
+}
+
+// The Z row as given, counted from a vector's first row.
+fn row_given(generation: u64, op: u64) -> usize
+    ensures { λ r. ⌜ (r ≡ Vecint.zRow op % Vecint.stride generation op) × (r < 64) ⌝ }
+{
+    let row = field(op, 20, 25) as usize;
+    let rows = stride(generation, op);
+    if rows == 16 {
+        return row % 16;
+    }
+    if rows == 32 {
+        return row % 32;
+    }
+    row
+}
+
+// A row with the low bits cleared that a lane's number replaces.
+fn rounded_down(op: u64, row: usize) -> usize
+    ensures { λ r. ⌜ (r ≡ row / Vecint.rowsEach op * Vecint.rowsEach op) × (r ≤ row) ⌝ }
+{
+    let rows = rows_each(op);
+    if rows == 2 {
+        return row / 2 * 2;
+    }
+    if rows == 4 {
+        return row / 4 * 4;
+    }
+    row
+}
+
+// The first of the rows that vector v, of four at most, writes.
+pub fn first_row(generation: u64, op: u64, v: usize) -> usize
+    ensures { λ r. ⌜ r ≡ v % 4 * Vecint.stride generation op + Vecint.zRow op % Vecint.stride generation op / Vecint.rowsEach op * Vecint.rowsEach op ⌝ }
+{
+    let start = v % 4 * stride(generation, op);
+    start + rounded_down(op, row_given(generation, op))
+}
+
+// ---- vecint: lanes
+
+// In 64 bytes, of 1, 2 or 4 bytes each.
+fn lanes_of(b: usize) -> usize
+    ensures { λ r. ⌜ (r ≡ cond (eqb b 1) 64 (cond (eqb b 2) 32 16)) × (r ≤ 64) ⌝ }
+{
+    if b == 1 {
+        return 64;
+    }
+    if b == 2 {
+        return 32;
+    }
+    16
+}
+
+// Of a vector, over all of its rows.
+pub fn vector_lanes(op: u64) -> usize
+    ensures { λ r. ⌜ (r ≡ Vecint.rowsEach op * lanesOf (Vecint.zWidth op)) × (r ≤ 64) ⌝ }
+{
+    if reduces(op) {
+        return lanes_of(z_width(op));
+    }
+    lanes_of(narrower(op))
+}
+
+// Of the mask: of X, or of Z in mode 4.
+fn mask_lanes(op: u64) -> u64
+    ensures { λ r. ⌜ r ≡ cond (Vecint.reduces op) (lanesOf (Vecint.zWidth op)) (lanesOf (Vecint.widths op .x)) ⌝ }
+{
+    if reduces(op) {
+        return lanes_of(z_width(op)) as u64;
+    }
+    lanes_of(x_width(op)) as u64
+}
+
+// Whether two lanes follow one of the mask, which is read at X's width.
+fn mask_halved(op: u64) -> bool
+    ensures { λ r. ⌜ r ≡ cond (Vecint.reduces op) false (ltb (Vecint.widths op .y) (Vecint.widths op .x)) ⌝ }
+{
+    if reduces(op) {
+        return false;
+    }
+    y_width(op) < x_width(op)
+}
+
+fn mask_lane(halved: bool, k: u64) -> u64
+    ensures { λ r. ⌜ r ≡ cond halved (k / 2) k ⌝ }
+{
+    if halved { k / 2 } else { k }
+}
+
+fn one_mask(lanes: u64, mode: u64, n: u64, halved: bool) -> [bool; 64]
+    ensures { λ r. ⌜ r ≡ table (λ k. vecintEnables lanes mode n (cond halved (k / 2) k)) 0 64 ⌝ }
+{
+    let mut out = [false; 64];
+    for k in 0..64 {
+        out[k] = vecint_enables(lanes, mode, n, mask_lane(halved, k as u64));
+    }
+    out
+}
+
+// The enabled lanes of a vector: all of them where there are several vectors.
+pub fn vecint_mask(generation: u64, op: u64) -> [bool; 64]
+    ensures { λ r. ⌜ r ≡ table (λ k. Vecint.several generation op || Vecint.masked op k) 0 64 ⌝ }
+{
+    if several(generation, op) {
+        return [true; 64];
+    }
+    one_mask(
+        mask_lanes(op),
+        field(op, 38, 40),
+        field(op, 32, 37),
+        mask_halved(op),
+    )
 }
