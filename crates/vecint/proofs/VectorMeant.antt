@@ -4,7 +4,7 @@ use mathlib.Core.Path.{_≡_, refl, sym, ap, ap₂, _∙_, subst}
 use mathlib.Core.Bool.{Bool, true, false, cond, _||_}
 use mathlib.Core.List.{List}
 use mathlib.Core.Logic.{_⊎_, inl, inr}
-use Prim.Native.Nat.{ℕ, _+_, _*_, _^_, _≤_, _<_}
+use Prim.Native.Nat.{ℕ, _+_, _*_, _/_, _%_, _^_, _≤_, _<_}
 use native.Mathlib.Nat.{zero-add, mul-comm}
 use native.Mathlib.Omega.{arith}
 use lib.Dec.{eqb}
@@ -19,7 +19,8 @@ use Rattle.number.proofs.Tests.{two, pick-true, pick-false, true-false}
 use Rattle.isa.specs.State.{lanesOf}
 use Rattle.isa.specs.Effect.{applied}
 use Rattle.isa.specs.Vecint as Vecint
-use Rattle.operand.proofs.Widths.{z-width-two-or-four, z-width-not-reducing, lanes-dealt, narrower-cases}
+use Rattle.operand.proofs.Widths.{z-width-two-or-four, z-width-not-reducing, lanes-dealt, narrower-cases, stride-cases}
+use Rattle.operand.proofs.Rows.{by-spacing, rows-in-z, first-row-of}
 use Rattle.state.specs.Rows.{dealt}
 use Rattle.state.proofs.Holds.{Bytes}
 use Rattle.state.proofs.Dealing.{dealt-same}
@@ -57,6 +58,9 @@ narrow gen op not c =
     saturating false e = e
 
 -- ---- the vector
+
+pub few-vectors : (gen op v : ℕ) → v < 64 / Vecint.stride gen op → v < 4
+few-vectors gen op v = by-spacing (λ s. v < 64 / s → v < 4) (λ h. omega arith) (λ h. omega arith) (λ h. omega arith) (stride-cases gen op)
 
 module _ (gen op v : ℕ) (s : List ℕ) (size : length s ≡ 5120) (small : Bytes s) (not : Vecint.reduces op ≡ false) where
   wide : Bool
@@ -118,3 +122,10 @@ module _ (gen op v : ℕ) (s : List ℕ) (size : length s ≡ 5120) (small : Byt
 
       in-list : (k : ℕ) → k < zLanes (eqb (Vecint.zWidth op) 4) * Vecint.rowsEach op → k < 64
       in-list k h = omega (arith, of-vector k h, few-lanes)
+
+  pub rows-fit : (base c : ℕ) (w : Bool) → v < 64 / Vecint.stride gen op → base ≡ v % 4 * Vecint.stride gen op + Vecint.zRow op % Vecint.stride gen op / Vecint.rowsEach op * Vecint.rowsEach op
+      → c ≡ Vecint.rowsEach op → w ≡ eqb (Vecint.zWidth op) 4 → (base + c ≤ 64) × (zLanes w * c ≤ 64)
+  rows-fit base c w hv eb ec ew = (
+    omega (arith, rows-in-z gen op v hv, eb, ec, first-row-of gen op v hv),
+    subst (λ (n : ℕ). n ≤ 64) (sym ((λ i. zLanes (ew i) * ec i) ∙ all-lanes)) few-lanes,
+  )

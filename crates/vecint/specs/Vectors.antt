@@ -7,7 +7,7 @@ use Prim.Native.Nat.{ℕ, _+_, _*_, _/_, _%_, _<_}
 use lib.Dec.{eqb}
 use lib.IntN.{ℤ, pos}
 use lib.ListN.{take, getD}
-use Rattle.number.specs.Bytes.{span}
+use Rattle.number.specs.Bytes.{span, table}
 use Rattle.number.specs.Integers.{wrap}
 use Rattle.isa.specs.State.{zBase, lanesOf}
 use Rattle.isa.specs.Effect.{Effect}
@@ -23,6 +23,10 @@ firstRow gen op v = v * Vecint.stride gen op + Vecint.zRow op % Vecint.stride ge
 -- the lanes of a vector
 abbrev pub vectorLanes : ℕ → ℕ
 vectorLanes op = Vecint.rowsEach op * lanesOf (Vecint.zWidth op)
+
+-- its enabled lanes, as a list
+abbrev pub vecintMask : ℕ → ℕ → List Bool
+vecintMask gen op = table (λ k. Vecint.several gen op || Vecint.masked op k) 0 64
 
 -- what vector v does on a state
 abbrev pub vectorEffect : ℕ → ℕ → ℕ → List ℕ → Effect

@@ -1,7 +1,7 @@
 // vecint on a lent state.
 ghost use mathlib.Core.Path.{_≡_};
 ghost use mathlib.Core.Bool.{true, false, cond};
-ghost use Prim.Native.Nat.{_+_, _*_, _<_, _≤_};
+ghost use Prim.Native.Nat.{_+_, _*_, _/_, _<_, _≤_};
 ghost use lib.Dec.{eqb};
 ghost use lib.IntN.{negℤ};
 ghost use lib.ListN.{length, getD};
@@ -13,7 +13,7 @@ ghost use Rattle.isa.specs.Vecint as Vecint;
 ghost use Rattle.state.specs.Rows.{oneRow, dealt};
 ghost use Rattle.vecint.specs.Accumulation.{zBytes, zLanes, summed, clampedSum, accumulated, laneStored, accumulate};
 ghost use Rattle.vecint.specs.Modes.{sumsIn, yAlone, negatesIn, aluBy};
-ghost use Rattle.vecint.specs.Vectors.{fixedY, laneY, HoldsX, HoldsY, HoldsTerms, vectorEffect};
+ghost use Rattle.vecint.specs.Vectors.{fixedY, laneY, HoldsX, HoldsY, HoldsTerms, vecintMask, vectorEffect};
 
 // ---- lanes of all modes but 4
 
@@ -324,4 +324,41 @@ fn y_side(state: &[u8], generation: u64, op: u64, v: usize, skip: bool) -> [i32;
         lane_y(generation, op),
         operand::x_width(op) == 1,
     )
+}
+
+// ---- vectors
+
+fn vector_terms(state: &[u8], generation: u64, op: u64, v: usize, how: Alu) -> [i64; 64]
+    requires { ⌜ (v < 4) × (Vecint.reduces op ≡ false) ⌝ }
+    ensures { λ r. ⌜ HoldsTerms generation op (now (state .entry)) v how r ⌝ }
+{
+    let xs = x_side(state, generation, op, v, how.skipx);
+    let ys = y_side(state, generation, op, v, how.skipy);
+    sides::terms(
+        operand::vector_lanes(op),
+        how.sums,
+        how.clamps,
+        operand::vecint_shift(op),
+        &xs,
+        &ys,
+    )
+}
+
+// Vector v of a step in any mode but 4.
+fn alu_vector(state: &mut [u8], generation: u64, op: u64, v: usize, on: &[bool; 64])
+    requires { ⌜ (length (now state) ≡ stateLength) × (v < 64 / Vecint.stride generation op) × (Vecint.reduces op ≡ false) × (now on ≡ vecintMask generation op) ⌝ }
+    ensures { λ _. ⌜ now (state .exit) ≡ applied (vectorEffect generation op v (now (state .entry))) (now (state .entry)) ⌝ }
+{
+    let how = alu_by(generation, op);
+    let terms = vector_terms(state, generation, op, v, how);
+    let wide = operand::z_width(op) == 4;
+    alu_rows(
+        state,
+        operand::first_row(generation, op, v),
+        operand::rows_each(op),
+        wide,
+        &terms,
+        on,
+        how,
+    );
 }
