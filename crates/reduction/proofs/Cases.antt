@@ -24,7 +24,7 @@ use Rattle.number.proofs.Tests.{pick-true, pick-false}
 use Rattle.isa.specs.Effect.{applied}
 use Rattle.state.proofs.RunLoop.{run-outside}
 use Rattle.reduction.specs.declared.Reduce.{Reduce}
-use Rattle.reduction.specs.Reduction.{widthIn, valueOf, reduceTo, addedTo, shiftedBy, lowEnd, highEnd, laneStored, rowReduced}
+use Rattle.reduction.specs.Reduction.{widthIn, valueOf, outcomeOf, reduceTo, addedTo, shiftedBy, lowEnd, highEnd, laneStored, rowReduced}
 
 -- ---- widths
 
@@ -105,9 +105,9 @@ pub mag-read : (sign : Bool) (b n : ℕ) → n < span b → mag (read sign b n) 
 mag-read true b n h = omega (arith, mag-signed b n h)
 mag-read false b n h = h
 
-pub reduced-is : (how : Reduce) (b z : ℕ) (old v : ℤ) → old ≡ read (how .sign) b z → v ≡ valueOf how old → wrap (span b) v ≡ reduceTo b how z
+pub reduced-is : (how : Reduce) (b z : ℕ) (old v : ℤ) → old ≡ read (how .sign) b z → v ≡ outcomeOf how old → wrap (span b) v ≡ reduceTo b how z
 unfolding reduceTo
-reduced-is how b z old v eo ev = ap (wrap (span b)) (ev ∙ ap (valueOf how) eo)
+reduced-is how b z old v eo ev = ap (wrap (span b)) (ev ∙ ap (outcomeOf how) eo)
 
 -- one byte, as it is stored
 pub stores-1 : (s : List ℕ) (p n : ℕ) → n < 256 → set s p n ≡ sets s p (bytesOf 1 n)

@@ -8,11 +8,12 @@ ghost use lib.ListN.{length, getD};
 ghost use Rattle.isa.specs.State.{stateLength};
 ghost use Rattle.isa.specs.Effect.{applied};
 ghost use Rattle.state.specs.Rows.{oneRow};
-ghost use Rattle.reduction.specs.Reduction.{widthIn, valueOf, reduceTo, addedTo, shiftedBy, lowEnd, highEnd, laneStored, rowReduced};
+ghost use Rattle.reduction.specs.Reduction.{widthIn, valueOf, outcomeOf, reduceTo, addedTo, shiftedBy, lowEnd, highEnd, laneStored, rowReduced};
 
 // What mode 4 does to a lane: Z is read as signed or not; what is shifted is rounded or not; the range that is clamped to reaches below 0 or not,
-// and has a width in bytes.
+// and has a width in bytes. Where the output is forced to 0, nothing else matters.
 pub struct Reduce {
+    pub clears: bool,
     pub sign: bool,
     pub rounds: bool,
     pub shift: u32,
@@ -100,24 +101,34 @@ fn value(old: i64, how: Reduce) -> i64
     v
 }
 
+fn outcome(old: i64, how: Reduce) -> i64
+    requires { ⌜ mag old < 2 ^ 40 ⌝ }
+    ensures { λ r. ⌜ r ≡ outcomeOf how old ⌝ }
+{
+    if how.clears {
+        return 0;
+    }
+    value(old, how)
+}
+
 // ---- lanes
 
 fn new8(z: u8, how: Reduce) -> u8
     ensures { λ r. ⌜ r ≡ reduceTo 1 how z ⌝ }
 {
-    number::wrapped8(value(number::read8(how.sign, z) as i64, how))
+    number::wrapped8(outcome(number::read8(how.sign, z) as i64, how))
 }
 
 fn new16(z: u16, how: Reduce) -> u16
     ensures { λ r. ⌜ r ≡ reduceTo 2 how z ⌝ }
 {
-    number::wrapped16(value(number::read16(how.sign, z) as i64, how))
+    number::wrapped16(outcome(number::read16(how.sign, z) as i64, how))
 }
 
 fn new32(z: u32, how: Reduce) -> u32
     ensures { λ r. ⌜ r ≡ reduceTo 4 how z ⌝ }
 {
-    number::wrapped32(value(number::read32(how.sign, z), how))
+    number::wrapped32(outcome(number::read32(how.sign, z), how))
 }
 
 // The old number where the lane is off.

@@ -5,13 +5,15 @@ use mathlib.Core.Bool.{Bool, true, false, cond, _&&_}
 use mathlib.Core.List.{List}
 use mathlib.Core.Logic.{⊎-elim}
 use Prim.Native.Nat.{ℕ, _+_, _-_, _*_, _/_, _%_, _≤_, _<_}
-use native.Mathlib.Nat.{mod-eq-of-lt, div-lt-iff-lt-mul, one-mul, mul-comm, mul-one}
+use native.Mathlib.Nat.{mod-eq-of-lt, div-lt-iff-lt-mul, one-mul, mul-comm}
 use native.Mathlib.Omega.{arith}
 use lib.Arith.{digits-lt}
+use lib.Dec.{leb, ltb}
 use lib.ListN.{length}
 use lib.Seq.{sets}
+use borrow.Author.Tests.{leb-true, ltb-true}
 use Rattle.number.specs.Bytes.{span, byteAt, number, bytesOf}
-use Rattle.number.proofs.Tests.{true-false, two, pick-true, pick-false, lt-or-le}
+use Rattle.number.proofs.Tests.{true-false, two, and-left, and-right, pick-false, lt-or-le}
 use Rattle.isa.specs.State.{start}
 use Rattle.isa.specs.Effect.{Effect, newLane, applied}
 use Rattle.isa.proofs.Place.{factor-pos}
@@ -136,3 +138,22 @@ module _ (b m : ℕ) (fit : m * b ≡ 64) (base c : ℕ) (s : List ℕ) (size : 
 
           past : (o : ℕ → Bool) (n : ℕ → ℕ → ℕ) → base + c ≤ r → dealt b base c o n .on r l ≡ false
           past o n h = rw (among-after base c r h)
+
+  -- one row is dealt to by itself
+  pub one-dealt : (on : ℕ → Bool) (new : ℕ → ℕ → ℕ) → applied (oneRow b base on new) s ≡ applied (dealt b base 1 on new) s
+  unfolding newLane
+  one-dealt on new = same-lanes b _ _ _ _ false false m fit s size small lane
+    where
+      lane : (r l : ℕ) → r < 64 → l < m → laneAfter (oneRow b base on new) s r l ≡ laneAfter (dealt b base 1 on new) s r l
+      lane r l hr hl =
+          two (among base 1 r) (laneAfter (oneRow b base on new) s r l ≡ laneAfter (dealt b base 1 on new) s r l)
+          (λ t.
+          let place : l ≡ l * 1 + (r - base) = omega (arith, leb-true base r (and-left (leb base r) (ltb r (base + 1)) t), ltb-true r (base + 1) (and-right (leb base r) (ltb r (base + 1)) t)) in
+          λ i. cond (among base 1 r && on (place i)) (new (place i) (number b (byteAt s) (start b r l)) % span b) (number b (byteAt s) (start b r l)))
+          (λ f. pick-false _ _ (off on f) ∙ sym (pick-false _ _ (past on f)))
+        where
+          off : (o : ℕ → Bool) → among base 1 r ≡ false → among base 1 r && o l ≡ false
+          off o f = rw f
+
+          past : (o : ℕ → Bool) → among base 1 r ≡ false → among base 1 r && o (l * 1 + (r - base)) ≡ false
+          past o f = rw f

@@ -9,9 +9,11 @@ use lib.IntN.{ℤ, pos}
 use lib.ListN.{take, getD}
 use Rattle.number.specs.Bytes.{span, table}
 use Rattle.number.specs.Integers.{wrap}
+use Rattle.isa.specs.Operand.{bit}
 use Rattle.isa.specs.State.{zBase, lanesOf}
 use Rattle.isa.specs.Effect.{Effect}
 use Rattle.isa.specs.Vecint as Vecint
+use Rattle.reduction.specs.declared.Reduce.{Reduce}
 use Rattle.state.specs.Rows.{dealt}
 use Rattle.vecint.specs.declared.Alu.{Alu}
 use Rattle.vecint.specs.Modes.{termBy}
@@ -52,3 +54,15 @@ HoldsY gen op s v skip ys = (k : ℕ) → k < vectorLanes op → getD ys k (pos 
 abbrev pub HoldsTerms : ℕ → ℕ → List ℕ → ℕ → Alu → List ℤ → Type 0
 HoldsTerms gen op s v how ts =
     (k : ℕ) → k < vectorLanes op → getD ts k (pos 0) ≡ termBy how (Vecint.shift op) (Vecint.xOf gen op (take zBase s) v k) (Vecint.yOf gen op (take zBase s) v k)
+
+-- what mode 4 does by an operand
+abbrev pub reduceBy : ℕ → ℕ → Reduce
+reduceBy gen op = record {
+  clears = Vecint.forcesZero gen op;
+  sign = bit op 63;
+  rounds = bit op 29;
+  shift = Vecint.shift op;
+  clamps = bit op 30;
+  below = bit op 26;
+  width = Vecint.reduction op .saturation;
+}

@@ -8,12 +8,12 @@ ghost use lib.ListN.{length, getD};
 ghost use Rattle.number.specs.Bytes.{span};
 ghost use Rattle.number.specs.Integers.{signed, wrap, kept};
 ghost use Rattle.isa.specs.State.{stateLength};
-ghost use Rattle.isa.specs.Effect.{applied};
+ghost use Rattle.isa.specs.Effect.{applied, lanesOn};
 ghost use Rattle.isa.specs.Vecint as Vecint;
 ghost use Rattle.state.specs.Rows.{oneRow, dealt};
 ghost use Rattle.vecint.specs.Accumulation.{zBytes, zLanes, summed, clampedSum, accumulated, laneStored, accumulate};
 ghost use Rattle.vecint.specs.Modes.{sumsIn, yAlone, negatesIn, aluBy};
-ghost use Rattle.vecint.specs.Vectors.{fixedY, laneY, HoldsX, HoldsY, HoldsTerms, vecintMask, vectorEffect};
+ghost use Rattle.vecint.specs.Vectors.{fixedY, laneY, HoldsX, HoldsY, HoldsTerms, vecintMask, vectorEffect, reduceBy};
 
 // ---- lanes of all modes but 4
 
@@ -361,4 +361,76 @@ fn alu_vector(state: &mut [u8], generation: u64, op: u64, v: usize, on: &[bool; 
         on,
         how,
     );
+}
+
+// What mode 4 does by an operand.
+fn reduce_by(generation: u64, op: u64) -> reduction::Reduce
+    ensures { λ r. ⌜ r ≡ reduceBy generation op ⌝ }
+{
+    reduction::Reduce {
+        clears: operand::overrides(generation, op, 3, 1),
+        sign: operand::flag(op, 63),
+        rounds: operand::flag(op, 29),
+        shift: operand::vecint_shift(op),
+        clamps: operand::flag(op, 30),
+        below: operand::flag(op, 26),
+        width: operand::saturation_width(op),
+    }
+}
+
+// Vector v of a step in mode 4: a row of Z.
+fn reduce_vector(state: &mut [u8], generation: u64, op: u64, v: usize, on: &[bool; 64])
+    requires { ⌜ (length (now state) ≡ stateLength) × (v < 64 / Vecint.stride generation op) × (Vecint.reduces op ≡ true) × (now on ≡ vecintMask generation op) ⌝ }
+    ensures { λ _. ⌜ now (state .exit) ≡ applied (vectorEffect generation op v (now (state .entry))) (now (state .entry)) ⌝ }
+{
+    let how = reduce_by(generation, op);
+    reduction::reduce_row(
+        state,
+        operand::first_row(generation, op, v),
+        operand::z_width(op),
+        on,
+        how,
+    );
+}
+
+fn vector(state: &mut [u8], generation: u64, op: u64, v: usize, on: &[bool; 64])
+    requires { ⌜ (length (now state) ≡ stateLength) × (v < 64 / Vecint.stride generation op) × (now on ≡ vecintMask generation op) ⌝ }
+    ensures { λ _. ⌜ now (state .exit) ≡ applied (vectorEffect generation op v (now (state .entry))) (now (state .entry)) ⌝ }
+{
+    if operand::reduces(op) {
+        reduce_vector(state, generation, op, v, on);
+        return;
+    }
+    alu_vector(state, generation, op, v, on);
+}
+
+fn each_vector(state: &mut [u8], generation: u64, op: u64, on: &[bool; 64])
+    requires { ⌜ (length (now state) ≡ stateLength) × (now on ≡ vecintMask generation op) ⌝ }
+    ensures { λ _. ⌜ now (state .exit) ≡ applied (Vecint.vecint generation op) (now (state .entry)) ⌝ }
+{
+    let vectors = operand::vectors(generation, op);
+    for v in 0..vectors {
+        vector(state, generation, op, v, on);
+    }
+}
+
+fn lanes_enabled(generation: u64, op: u64, on: &[bool; 64]) -> u64
+    requires { ⌜ now on ≡ vecintMask generation op ⌝ }
+    ensures { λ r. ⌜ r ≡ lanesOn (Vecint.vecint generation op) ⌝ }
+{
+    let n = operand::count_first(on, operand::vector_lanes(op));
+    operand::vectors(generation, op) as u64 * n
+}
+
+// vecint on a state of 5,120 bytes, and the count of enabled lanes; a state of another length stays as it is.
+pub fn step(state: &mut [u8], generation: u64, op: u64) -> u64
+    ensures { λ r. ⌜ (now (state .exit) ≡ cond (eqb (length (now (state .entry))) stateLength) (applied (Vecint.vecint generation op) (now (state .entry))) (now (state .entry)))
+        × (r ≡ cond (eqb (length (now (state .entry))) stateLength) (lanesOn (Vecint.vecint generation op)) 0) ⌝ }
+{
+    if state.len() != 5120 {
+        return 0;
+    }
+    let on = operand::vecint_mask(generation, op);
+    each_vector(state, generation, op, &on);
+    lanes_enabled(generation, op, &on)
 }

@@ -14,12 +14,12 @@ read16-requires : tie.Need-read16-requires
 read16-requires c κs = search needs
 
 -- src/lib.rt:112:29
-cast-value : tie.Need-cast-value
-cast-value c = rw (toZ-ofZ {w = w32} (sfits-of (c .read16 .ok))) (sfits-widen {w = w32} {w′ = w64} tt (sfits-of (c .read16 .ok)))
+cast-outcome : tie.Need-cast-outcome
+cast-outcome c = rw (toZ-ofZ {w = w32} (sfits-of (c .read16 .ok))) (sfits-widen {w = w32} {w′ = w64} tt (sfits-of (c .read16 .ok)))
 
 -- src/lib.rt:112:23
-value-requires : tie.Need-value-requires
-value-requires c κs = rw (widened w32 w64 (c .read16 .result) tt (sfits-of (c .read16 .ok))) (omega (arith, c .read16 .ok))
+outcome-requires : tie.Need-outcome-requires
+outcome-requires c κs = rw (widened w32 w64 (c .read16 .result) tt (sfits-of (c .read16 .ok))) (omega (arith, c .read16 .ok))
 
 -- src/lib.rt:112:5
 wrapped16-requires : tie.Need-wrapped16-requires
@@ -27,8 +27,8 @@ wrapped16-requires c κs = search needs
 
 -- src/lib.rt:109:1
 returns : tie.Need-returns
-returns c = c .wrapped16 .ensures ∙ reduced-is (c .before .before .before .args .how) 2 (c .before .before .before .args .z) _ _ (widened w32 w64 (c .before .before .read16 .result) tt (sfits-of (c .before .before .read16 .ok)) ∙ c .before .before .read16 .ensures) (toZ-ofZ {w = w64} {z = c .before .value .result} (sfits-of (c .before .value .ok)) ∙ c .before .value .ensures)
+returns c = c .wrapped16 .ensures ∙ reduced-is (c .before .before .before .args .how) 2 (c .before .before .before .args .z) _ _ (widened w32 w64 (c .before .before .read16 .result) tt (sfits-of (c .before .before .read16 .ok)) ∙ c .before .before .read16 .ensures) (toZ-ofZ {w = w64} {z = c .before .outcome .result} (sfits-of (c .before .outcome .ok)) ∙ c .before .outcome .ensures)
 
 pub new16-spec : {M : Type 1} → statement M
 new16-spec =
-    tie.close (tie.spec read16-requires cast-value value-requires wrapped16-requires returns)
+    tie.close (tie.spec read16-requires cast-outcome outcome-requires wrapped16-requires returns)

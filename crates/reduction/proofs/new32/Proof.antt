@@ -13,8 +13,8 @@ read32-requires : tie.Need-read32-requires
 read32-requires c κs = search needs
 
 -- src/lib.rt:118:23
-value-requires : tie.Need-value-requires
-value-requires c κs = rw (toZ-ofZ {w = w64} (sfits-of (c .read32 .ok)), c .read32 .ensures) (omega (arith, mag-read (c .before .args .how .sign) 4 (c .before .args .z) (omega arith)))
+outcome-requires : tie.Need-outcome-requires
+outcome-requires c κs = rw (toZ-ofZ {w = w64} (sfits-of (c .read32 .ok)), c .read32 .ensures) (omega (arith, mag-read (c .before .args .how .sign) 4 (c .before .args .z) (omega arith)))
 
 -- src/lib.rt:118:5
 wrapped32-requires : tie.Need-wrapped32-requires
@@ -22,7 +22,7 @@ wrapped32-requires c κs = search needs
 
 -- src/lib.rt:115:1
 returns : tie.Need-returns
-returns c = c .wrapped32 .ensures ∙ reduced-is (c .before .before .before .args .how) 4 (c .before .before .before .args .z) _ _ (toZ-ofZ (sfits-of (c .before .before .read32 .ok)) ∙ c .before .before .read32 .ensures) (toZ-ofZ {w = w64} {z = c .before .value .result} (sfits-of (c .before .value .ok)) ∙ c .before .value .ensures)
+returns c = c .wrapped32 .ensures ∙ reduced-is (c .before .before .before .args .how) 4 (c .before .before .before .args .z) _ _ (toZ-ofZ (sfits-of (c .before .before .read32 .ok)) ∙ c .before .before .read32 .ensures) (toZ-ofZ {w = w64} {z = c .before .outcome .result} (sfits-of (c .before .outcome .ok)) ∙ c .before .outcome .ensures)
 
 pub new32-spec : {M : Type 1} → statement M
-new32-spec = tie.close (tie.spec read32-requires value-requires wrapped32-requires returns)
+new32-spec = tie.close (tie.spec read32-requires outcome-requires wrapped32-requires returns)

@@ -14,12 +14,12 @@ read8-requires : tie.Need-read8-requires
 read8-requires c κs = search needs
 
 -- src/lib.rt:106:28
-cast-value : tie.Need-cast-value
-cast-value c = rw (toZ-ofZ {w = w32} (sfits-of (c .read8 .ok))) (sfits-widen {w = w32} {w′ = w64} tt (sfits-of (c .read8 .ok)))
+cast-outcome : tie.Need-cast-outcome
+cast-outcome c = rw (toZ-ofZ {w = w32} (sfits-of (c .read8 .ok))) (sfits-widen {w = w32} {w′ = w64} tt (sfits-of (c .read8 .ok)))
 
 -- src/lib.rt:106:22
-value-requires : tie.Need-value-requires
-value-requires c κs = rw (widened w32 w64 (c .read8 .result) tt (sfits-of (c .read8 .ok))) (omega (arith, c .read8 .ok))
+outcome-requires : tie.Need-outcome-requires
+outcome-requires c κs = rw (widened w32 w64 (c .read8 .result) tt (sfits-of (c .read8 .ok))) (omega (arith, c .read8 .ok))
 
 -- src/lib.rt:106:5
 wrapped8-requires : tie.Need-wrapped8-requires
@@ -27,7 +27,7 @@ wrapped8-requires c κs = search needs
 
 -- src/lib.rt:103:1
 returns : tie.Need-returns
-returns c = c .wrapped8 .ensures ∙ reduced-is (c .before .before .before .args .how) 1 (c .before .before .before .args .z) _ _ (widened w32 w64 (c .before .before .read8 .result) tt (sfits-of (c .before .before .read8 .ok)) ∙ c .before .before .read8 .ensures) (toZ-ofZ {w = w64} {z = c .before .value .result} (sfits-of (c .before .value .ok)) ∙ c .before .value .ensures)
+returns c = c .wrapped8 .ensures ∙ reduced-is (c .before .before .before .args .how) 1 (c .before .before .before .args .z) _ _ (widened w32 w64 (c .before .before .read8 .result) tt (sfits-of (c .before .before .read8 .ok)) ∙ c .before .before .read8 .ensures) (toZ-ofZ {w = w64} {z = c .before .outcome .result} (sfits-of (c .before .outcome .ok)) ∙ c .before .outcome .ensures)
 
 pub new8-spec : {M : Type 1} → statement M
-new8-spec = tie.close (tie.spec read8-requires cast-value value-requires wrapped8-requires returns)
+new8-spec = tie.close (tie.spec read8-requires cast-outcome outcome-requires wrapped8-requires returns)
