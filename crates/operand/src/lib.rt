@@ -133,10 +133,7 @@ pub fn count32(on: &[bool; 32]) -> u64
 fn up_to_64(n: usize) -> usize
     ensures { λ r. ⌜ (r ≡ cond (ltb n 64) n 64) × (r ≤ 64) ⌝ }
 {
-    if n < 64 {
-        return n;
-    }
-    64
+    if n < 64 { n } else { 64 }
 }
 
 // How many of the first n of 64 lanes are enabled.
@@ -480,7 +477,9 @@ fn mask_halved(op: u64) -> bool
     if reduces(op) {
         return false;
     }
-    y_width(op) < x_width(op)
+    let x = x_width(op);
+    let y = y_width(op);
+    y < x
 }
 
 fn mask_lane(halved: bool, k: u64) -> u64
