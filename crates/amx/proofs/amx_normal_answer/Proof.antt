@@ -1,0 +1,22 @@
+use borrow.Author.Needs.{needs}
+use Rattle.amx.proofs.amx_normal_answer.Statement.{statement}
+use Rattle.amx.proofs.amx_normal_answer.Tie as tie
+use Rattle.amx.proofs.amx_normal_answer.Reads as reads
+use Rattle.amx.proofs.amx_normal_answer.Lts as lts
+use Rattle.amx.proofs.normal.Reads as normal-reads
+use Rattle.isa.proofs.normal_number.Reads as normal-number-reads
+
+-- src/lib.rt:59:24
+normal-requires : tie.Need-normal-requires
+normal-requires c κs = search needs
+
+-- src/lib.rt:59:5
+normal-number-requires : tie.Need-normal-number-requires
+normal-number-requires c κs = search needs
+
+-- src/lib.rt:55:1
+returns : tie.Need-returns
+returns c = ?
+
+pub amx-normal-answer-spec : {M : Type 1} → statement M
+amx-normal-answer-spec = tie.close (tie.spec normal-requires normal-number-requires returns)

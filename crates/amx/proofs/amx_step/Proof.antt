@@ -1,0 +1,26 @@
+use borrow.Author.Needs.{needs}
+use Rattle.amx.proofs.amx_step.Statement.{statement}
+use Rattle.amx.proofs.amx_step.Tie as tie
+use Rattle.amx.proofs.amx_step.Reads as reads
+use Rattle.amx.proofs.amx_step.Lts as lts
+use Rattle.amx.proofs.step.Reads as step-reads
+use Rattle.isa.proofs.host_number.Reads as host-number-reads
+
+-- src/lib.rt:52:22
+step-requires : tie.Need-step-requires
+step-requires c κs = search needs
+
+-- src/lib.rt:52:5
+host-number-requires : tie.Need-host-number-requires
+host-number-requires c κs = search needs
+
+-- src/lib.rt:47:1
+same-length : tie.Need-same-length
+same-length c = search needs
+
+-- src/lib.rt:47:1
+returns : tie.Need-returns
+returns c = ?
+
+pub amx-step-spec : {M : Type 1} → statement M
+amx-step-spec = tie.close (tie.spec step-requires host-number-requires same-length returns)
