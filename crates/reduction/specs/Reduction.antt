@@ -44,8 +44,11 @@ shiftedBy how old = (old +ℤ addedTo how) ≫ (how .shift % 32)
 abbrev pub lowEnd : Bool → ℕ → ℤ
 lowEnd below b = cond below (negsuc (span (widthIn b) / 2 - 1)) (pos 0)
 
+abbrev pub highest : Bool → ℕ → ℕ
+highest below b = cond below (span (widthIn b) / 2) (span (widthIn b)) - 1
+
 abbrev pub highEnd : Bool → ℕ → ℤ
-highEnd below b = pos (cond below (span (widthIn b) / 2) (span (widthIn b)) - 1)
+highEnd below b = pos (highest below b)
 
 -- a state with the lane of b bytes at a position so: the old number where it is off
 abbrev pub laneStored : ℕ → Reduce → List ℕ → ℕ → Bool → List ℕ
