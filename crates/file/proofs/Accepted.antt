@@ -5,6 +5,7 @@ use mathlib.Core.Bool.{Bool, true, false, not}
 use mathlib.Core.List.{List}
 use mathlib.Core.Logic.{⊎-elim}
 use Prim.Native.Nat.{ℕ, _+_, _*_, _≤_, _<_}
+use native.Mathlib.Omega.{arith}
 use borrow.Author.Tests.{lt-ltb, le-ltb}
 use lib.ListN.{length}
 use Rattle.number.proofs.Tests.{pick-true, pick-false, true-false, lt-or-le, two}
@@ -12,8 +13,10 @@ use Rattle.file.specs.declared.FileRefusal.{FileRefusal}
 use Rattle.file.specs.declared.FileRefusal.the-variants.{Short, Contents, Padding}
 use Rattle.file.specs.declared.Opened.{Opened}
 use Rattle.file.specs.declared.Opened.the-variants.{Steps, Refused}
-use Rattle.file.specs.File.{contentsLength, mostSteps, stepAt, stepCount, contentsRight, paddingsClear, openedAs}
+use Rattle.file.specs.declared.Read.the-variants as read
+use Rattle.file.specs.File.{contentsLength, mostSteps, stepAt, stepCount, contentsRight, paddingsClear, openedAs, callAt, cursor, recordOf, readAs}
 use Rattle.file.proofs.Contents.{contents-most, contents-length}
+use Rattle.file.proofs.Records.{read-step}
 
 -- ---- by the branches
 
@@ -77,3 +80,7 @@ module _ (file : List ℕ) (n : ℕ) (opened : openedAs file ≡ Steps n) where
 
   pub accepted-most : n ≤ 2048
   accepted-most = subst (λ (k : ℕ). k ≤ mostSteps) accepted-count (contents-most file accepted-contents)
+
+  -- each of its steps is read, one after another
+  pub accepted-read : (i : ℕ) → i < n → read.Record (recordOf (callAt file i)) (cursor (i + 1) n) ≡ readAs file (cursor i n)
+  accepted-read i h = read-step file i n h (omega (arith, accepted-most))

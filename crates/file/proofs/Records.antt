@@ -1,7 +1,7 @@
 -- Records of a file: their bytes as numbers, the cursor, the list of calls, and the starting state.
 -- Assumes nothing.
 use mathlib.Core.Path.{_≡_, sym, ap, _∙_}
-use mathlib.Core.Bool.{true, false, cond, _&&_}
+use mathlib.Core.Bool.{true, false, _&&_}
 use mathlib.Core.List.{List}
 use Prim.Native.Nat.{ℕ, _+_, _*_, _≤_, _<_}
 use native.Mathlib.Nat.{zero-add}
@@ -9,16 +9,15 @@ use native.Mathlib.Omega.{arith}
 use borrow.Author.Tests.{lt-ltb, le-ltb, eq-eqb, ne-eqb, le-leb, lt-leb}
 use lib.Dec.{eqb, leb, ltb}
 use lib.ListN.{length, getD}
-use Rattle.number.specs.Bytes.{byteAt, number, table}
+use Rattle.number.specs.Bytes.{byteAt, number}
 use Rattle.number.proofs.Tests.{pick-true, pick-false}
 use Rattle.number.proofs.Bytes.{length-table, getD-table}
 use Rattle.number.proofs.Slice.{number-add}
 use Rattle.isa.specs.State.{stateLength}
 use Rattle.isa.specs.Call.{Call, call}
 use Rattle.file.specs.declared.Record.{Record}
-use Rattle.file.specs.declared.Read.{Read}
 use Rattle.file.specs.declared.Read.the-variants as read
-use Rattle.file.specs.File.{stepsBase, mostSteps, stepAt, callAt, calls, startOf, cursor, recordOf, readAs, loadedFrom}
+use Rattle.file.specs.File.{stepsBase, mostSteps, callAt, calls, startOf, cursor, recordOf, readAs, loadedFrom}
 
 -- ---- bytes as numbers
 

@@ -170,7 +170,13 @@ pub fn read_record(file: &[u8], cursor: Cursor) -> Read
         return Read::End;
     }
     let step = record_at(file, next);
-    Read::Record(step, Cursor { next: next + 1, end })
+    Read::Record(
+        step,
+        Cursor {
+            next: next + 1,
+            end,
+        },
+    )
 }
 
 // ---- the starting state

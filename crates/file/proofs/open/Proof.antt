@@ -1,15 +1,17 @@
+use mathlib.Core.Path.{sym, ap, _∙_}
+use native.Mathlib.Omega.{arith}
+use borrow.Author.Tests.{not-true, not-false}
+use Rattle.file.specs.declared.Opened.the-variants.{Steps}
+use Rattle.file.specs.File.{paddingsClear}
+use Rattle.file.proofs.Contents.{contents-most}
+use Rattle.file.proofs.Accepted.{opened-short, opened-contents, opened-padding, opened-steps}
 use borrow.Author.Needs.{needs}
 use Rattle.file.proofs.open.Statement.{statement}
 use Rattle.file.proofs.open.Tie as tie
-use Rattle.file.proofs.open.Reads as reads
-use Rattle.file.proofs.open.Lts as lts
-use Rattle.file.proofs.contents_right.Reads as contents-right-reads
-use Rattle.file.proofs.paddings_clear.Reads as paddings-clear-reads
-use Rattle.file.proofs.step_count.Reads as step-count-reads
 
 -- src/lib.rt:121:9
 returns : tie.Need-returns
-returns c = ?
+returns c = opened-short (c .before .before .args .file .now) (c .if1 .taken)
 
 -- src/lib.rt:123:9
 contents-right-requires : tie.Need-contents-right-requires
@@ -17,7 +19,7 @@ contents-right-requires c κs = search needs
 
 -- src/lib.rt:124:9
 returns-2 : tie.Need-returns-2
-returns-2 c = ?
+returns-2 c = opened-contents (c .before .before .before .before .args .file .now) (c .before .before .if1 .left) (sym (c .before .contents-right .ensures) ∙ not-true (c .before .contents-right .result) (c .if2 .taken))
 
 -- src/lib.rt:126:13
 step-count-requires : tie.Need-step-count-requires
@@ -29,15 +31,15 @@ cast-n c = search needs
 
 -- src/lib.rt:127:9
 paddings-clear-requires : tie.Need-paddings-clear-requires
-paddings-clear-requires c κs = ?
+paddings-clear-requires c κs = omega (arith, contents-most (c .before .before .before .before .before .args .file .now) (sym (c .before .before .contents-right .ensures) ∙ not-false (c .before .before .contents-right .result) (c .before .if2 .left)), c .step-count .ensures .0)
 
 -- src/lib.rt:128:9
 returns-3 : tie.Need-returns-3
-returns-3 c = ?
+returns-3 c = opened-padding (c .before .before .before .before .before .before .before .args .file .now) (c .before .before .before .before .before .if1 .left) (sym (c .before .before .before .before .contents-right .ensures) ∙ not-false (c .before .before .before .before .contents-right .result) (c .before .before .before .if2 .left)) (ap (paddingsClear (c .before .before .before .before .before .before .before .args .file .now)) (sym (c .before .before .step-count .ensures .0)) ∙ sym (c .before .paddings-clear .ensures) ∙ not-true (c .before .paddings-clear .result) (c .if3 .taken))
 
 -- src/lib.rt:117:1
 returns-4 : tie.Need-returns-4
-returns-4 c = ?
+returns-4 c = ap Steps (c .before .before .step-count .ensures .0) ∙ opened-steps (c .before .before .before .before .before .before .before .args .file .now) (c .before .before .before .before .before .if1 .left) (sym (c .before .before .before .before .contents-right .ensures) ∙ not-false (c .before .before .before .before .contents-right .result) (c .before .before .before .if2 .left)) (ap (paddingsClear (c .before .before .before .before .before .before .before .args .file .now)) (sym (c .before .before .step-count .ensures .0)) ∙ sym (c .before .paddings-clear .ensures) ∙ not-false (c .before .paddings-clear .result) (c .if3 .left))
 
 pub open-spec : {M : Type 1} → statement M
 open-spec =
