@@ -7,7 +7,7 @@ use mathlib.Core.Logic.{⊎-elim}
 use Prim.Native.Nat.{ℕ, zero, suc, _+_, _*_, _≤_, _<_, suc-le-suc}
 use native.Mathlib.Nat.{add-zero, add-suc, suc-add, zero-lt-suc, not-suc-le-zero, le-of-suc-le-suc}
 use native.Mathlib.Omega.{arith}
-use borrow.Author.Tests.{eq-eqb, eqb-true}
+use borrow.Author.Tests.{eq-eqb, eqb-true, eqb-false}
 use lib.Dec.{eqb}
 use Rattle.number.specs.Bytes.{byteAt, number}
 use Rattle.number.proofs.Tests.{and-left, and-right, is-false, true-false, lt-or-le, two}
@@ -67,19 +67,20 @@ module _ (f : ℕ → ℕ) where
 -- ---- one step's
 
 module _ (file : List ℕ) (i : ℕ) where
-  parts : number 6 (byteAt file) (stepAt i + 2) ≡ number 2 (byteAt file) (stepAt i + 2) + 65536 * number 4 (byteAt file) (stepAt i + 4)
-  parts =
-      let at : stepAt i + 2 + 2 ≡ stepAt i + 4 = omega arith in
-      number-add 2 4 (byteAt file) (stepAt i + 2)
-      ∙ ap (λ (p : ℕ). number 2 (byteAt file) (stepAt i + 2) + 65536 * number 4 (byteAt file) p) at
+  abbrev pair : ℕ
+  pair = number 2 (byteAt file) (stepAt i + 2)
 
-  pub pair-set : (n : ℕ) → n ≡ number 2 (byteAt file) (stepAt i + 2) → (n ≡ 0 → ⊥) → false ≡ paddingClear file i
+  abbrev quartet : ℕ
+  quartet = number 4 (byteAt file) (stepAt i + 2 + 2)
+
+  parts : number 6 (byteAt file) (stepAt i + 2) ≡ pair + 65536 * quartet
+  parts = number-add 2 4 (byteAt file) (stepAt i + 2)
+
+  pub pair-set : (n : ℕ) → n ≡ pair → (n ≡ 0 → ⊥) → false ≡ paddingClear file i
   unfolding paddingClear
-  pair-set n e f =
-      sym (bytes-not-clear (byteAt file) 6 (stepAt i + 2) (λ g. f (omega (arith, e, g, parts))))
+  pair-set n e f = sym (bytes-not-clear (byteAt file) 6 (stepAt i + 2) (λ g. f (omega (arith, e, g, parts))))
 
-  pub by-quartet : (n m : ℕ) → n ≡ number 2 (byteAt file) (stepAt i + 2) → n ≡ 0 → m ≡ number 4 (byteAt file) (stepAt i + 4)
-      → eqb m 0 ≡ paddingClear file i
+  pub by-quartet : (n m : ℕ) → n ≡ pair → n ≡ 0 → m ≡ quartet → eqb m 0 ≡ paddingClear file i
   unfolding paddingClear
   by-quartet n m e z f =
       two (eqb m 0) (eqb m 0 ≡ clear (byteAt file) 6 (stepAt i + 2))
@@ -87,7 +88,7 @@ module _ (file : List ℕ) (i : ℕ) where
       let none : m ≡ 0 = eqb-true m 0 t in
       t ∙ sym (bytes-clear (byteAt file) 6 (stepAt i + 2) (omega (arith, e, z, f, none, parts))))
       (λ t.
-      t ∙ sym (bytes-not-clear (byteAt file) 6 (stepAt i + 2) (λ g. true-false (sym (eq-eqb m 0 (omega (arith, f, g, parts))) ∙ t))))
+      t ∙ sym (bytes-not-clear (byteAt file) 6 (stepAt i + 2) (λ g. eqb-false m 0 t (omega (arith, f, g, parts)))))
 
 -- ---- all steps'
 

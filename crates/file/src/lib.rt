@@ -1,6 +1,6 @@
 // Trace files, read from lent bytes. Every function open to callers takes every argument.
 ghost use mathlib.Core.Path.{_≡_};
-ghost use Prim.Native.Nat.{_+_, _≤_, _<_};
+ghost use Prim.Native.Nat.{_≤_, _<_};
 ghost use Rattle.number.specs.Bytes.{byteAt, number};
 ghost use Rattle.file.specs.File.{fileRefusalNumber, entryIs, stepCount, contentsRight, paddingClear, paddingsClear, openedAs, callAt, recordOf, readAs, loadedFrom};
 
@@ -30,6 +30,7 @@ pub struct Record {
     pub operand: u64,
 }
 
+// What reading at a cursor finds: a step and the cursor behind it, or no step.
 pub enum Read {
     Record(Record, Cursor),
     End,
@@ -48,6 +49,7 @@ pub fn file_refusal_number(r: FileRefusal) -> u64
 
 // ---- opening
 
+// Whether the entry of the table at a position is this one.
 fn entry_is(file: &[u8], at: usize, kind: u16, offset: u32, size: u32) -> bool
     requires { ⌜ at < 28 ⌝ }
     ensures { λ r. ⌜ r ≡ entryIs (now (file .entry)) at kind offset size ⌝ }
@@ -64,12 +66,14 @@ fn entry_is(file: &[u8], at: usize, kind: u16, offset: u32, size: u32) -> bool
     number::get32(file, at + 8) == size
 }
 
+// By the length of the second section.
 fn step_count(file: &[u8]) -> u32
     ensures { λ r. ⌜ (r ≡ stepCount (now (file .entry))) × (r < 268435456) ⌝ }
 {
     number::get32(file, 24) / 16
 }
 
+// The whole table, and the length of the file that follows from it.
 fn contents_right(file: &[u8]) -> bool
     ensures { λ r. ⌜ r ≡ contentsRight (now (file .entry)) ⌝ }
 {
@@ -89,16 +93,16 @@ fn contents_right(file: &[u8]) -> bool
     file.len() == 5148 + 16 * n as usize
 }
 
-// The six bytes as a pair and a quartet.
+// One step's six bytes, as a pair and a quartet.
 fn padding_clear(file: &[u8], i: usize) -> bool
     requires { ⌜ i < 2048 ⌝ }
     ensures { λ r. ⌜ r ≡ paddingClear (now (file .entry)) i ⌝ }
 {
-    let at = 5148 + 16 * i;
-    if number::get16(file, at + 2) != 0 {
+    let padding = 5148 + 16 * i + 2;
+    if number::get16(file, padding) != 0 {
         return false;
     }
-    number::get32(file, at + 4) == 0
+    number::get32(file, padding + 2) == 0
 }
 
 fn paddings_clear(file: &[u8], n: usize) -> bool
