@@ -1,0 +1,4 @@
+pub mod Contents
+pub mod Paddings
+pub mod Accepted
+pub mod Records
