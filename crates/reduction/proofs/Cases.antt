@@ -3,28 +3,29 @@
 use mathlib.Core.Path.{_≡_, refl, sym, ap, _∙_, subst}
 use mathlib.Core.Bool.{Bool, true, false, cond, not, _&&_}
 use mathlib.Core.List.{List}
-use Prim.Native.Nat.{ℕ, zero, suc, _-_, _*_, _/_, _%_, _^_, _≤_, _<_}
-use native.Mathlib.Nat.{mod-lt, mod-eq-of-lt, zero-lt-suc}
+use mathlib.Core.Logic.{⊎-elim}
+use Prim.Native.Nat.{ℕ, zero, suc, _+_, _-_, _*_, _/_, _%_, _^_, _≤_, _<_}
+use native.Mathlib.Nat.{mod-lt, mod-eq-of-lt, zero-lt-suc, zero-mod}
 use native.Mathlib.Omega.{arith}
-use borrow.Author.Tests.{ne-eqb}
+use borrow.Author.Tests.{ne-eqb, lt-ltb, le-ltb}
 use lib.Dec.{eqb}
 use lib.IntN.{ℤ, pos, negsuc, _+ℤ_}
 use lib.ListN.{set, getD}
 use lib.Pow.{pow-mono}
 use lib.Seq.{sets}
-use lib.Signed.{mag}
-use mir.Facts.{toZ-ofZ}
-use mir.Syntax.{w64}
+use lib.Signed.{mag, ltZ}
+use mir.Facts.{toZ-ofZ, sfits-lit, sfits-widen}
+use mir.Syntax.{Width, w32, w64}
 use mir.Val.{SFits, toZ, ofZ}
 use Rattle.number.specs.Bytes.{span, byteAt, number, table, bytesOf}
-use Rattle.number.specs.Integers.{read, wrap, halfUnit, clamp}
+use Rattle.number.specs.Integers.{read, wrap, halfUnit, clamp, clampSigned}
 use Rattle.number.proofs.Bytes.{byteOf-zero}
 use Rattle.number.proofs.Range.{mag-add, mag-signed}
-use Rattle.number.proofs.Tests.{pick-true, pick-false}
+use Rattle.number.proofs.Tests.{pick-true, pick-false, lt-or-le}
 use Rattle.isa.specs.Effect.{applied}
 use Rattle.state.proofs.RunLoop.{run-outside}
 use Rattle.reduction.specs.declared.Reduce.{Reduce}
-use Rattle.reduction.specs.Reduction.{widthIn, valueOf, outcomeOf, reduceTo, addedTo, shiftedBy, lowEnd, highEnd, laneStored, rowReduced}
+use Rattle.reduction.specs.Reduction.{widthIn, valueOf, reduceTo, addedTo, shiftedBy, lowEnd, highEnd, laneStored, rowReduced}
 
 -- ---- widths
 
@@ -47,22 +48,34 @@ pub added-half : (how : Reduce) (r : ℤ) → how .rounds ≡ true → r ≡ hal
 added-half how r t e =
     (e ∙ sym (pick-true _ _ t), subst (λ (x : ℤ). mag x ≤ 2 ^ 30) (sym e) (half-small (how .shift % 32) (mod-lt (how .shift) (zero-lt-suc 31))))
 
--- it fits an i64
-module _ (old r : ℤ) (ho : mag old < 2 ^ 40) (hr : mag r ≤ 2 ^ 30) where
-  parts-fit : SFits w64 old × SFits w64 r
-  parts-fit = (record { sfits = omega arith }, record { sfits = omega arith })
+-- it fits an i64, and an i32 where the lane has up to 16 bits
+pub sum-fits : (old r : ℤ) → mag old < 2 ^ 40 → mag r ≤ 2 ^ 30 → SFits w64 (old +ℤ r)
+sum-fits old r ho hr = record { sfits = omega (arith, mag-add old r {A = 2 ^ 40} {B = 2 ^ 31} ho (omega arith)) }
 
-  sum-fits : SFits w64 (old +ℤ r)
-  sum-fits = record { sfits = omega (arith, mag-add old r {A = 2 ^ 40} {B = 2 ^ 31} ho (omega arith)) }
+pub sum-fits-32 : (old r : ℤ) → mag old < 2 ^ 16 → mag r ≤ 2 ^ 30 → SFits w32 (old +ℤ r)
+sum-fits-32 old r ho hr = record { sfits = omega (arith, mag-add old r {A = 2 ^ 16} {B = 2 ^ 30 + 1} ho (omega arith)) }
 
-  parts : toZ w64 (ofZ w64 old) +ℤ toZ w64 (ofZ w64 r) ≡ old +ℤ r
-  parts = λ i. toZ-ofZ (parts-fit .0) i +ℤ toZ-ofZ (parts-fit .1) i
+-- as code holds it
+module _ (w : Width) (old r : ℤ) (fo : SFits w old) (fr : SFits w r) (fs : SFits w (old +ℤ r)) where
+  parts : toZ w (ofZ w old) +ℤ toZ w (ofZ w r) ≡ old +ℤ r
+  parts = λ i. toZ-ofZ fo i +ℤ toZ-ofZ fr i
 
-  pub added-fits : SFits w64 (toZ w64 (ofZ w64 old) +ℤ toZ w64 (ofZ w64 r))
-  added-fits = subst (SFits w64) (sym parts) sum-fits
+  pub added-fits : SFits w (toZ w (ofZ w old) +ℤ toZ w (ofZ w r))
+  added-fits = subst (SFits w) (sym parts) fs
 
-  pub added-is : toZ w64 (ofZ w64 (toZ w64 (ofZ w64 old) +ℤ toZ w64 (ofZ w64 r))) ≡ old +ℤ r
+  pub added-is : toZ w (ofZ w (toZ w (ofZ w old) +ℤ toZ w (ofZ w r))) ≡ old +ℤ r
   added-is = toZ-ofZ added-fits ∙ parts
+
+-- an i64 that an i32 holds, cast to it
+module _ (z : ℤ) (f : SFits w32 z) where
+  same : toZ w64 (ofZ w64 z) ≡ z
+  same = toZ-ofZ (sfits-widen {w = w32} {w′ = w64} tt f)
+
+  pub cast-fits : SFits w32 (toZ w64 (ofZ w64 z))
+  cast-fits = subst (SFits w32) (sym same) f
+
+  pub cast-is : toZ w32 (ofZ w32 (toZ w64 (ofZ w64 z))) ≡ z
+  cast-is = ap (λ (x : ℤ). toZ w32 (ofZ w32 x)) same ∙ toZ-ofZ f
 
 -- ---- the ends of the range
 
@@ -83,6 +96,37 @@ module _ (below : Bool) (b : ℕ) where
 
 pub high-at : (below : Bool) (b w : ℕ) → widthIn b ≡ w → pos (cond below (span w / 2) (span w) - 1) ≡ highEnd below b
 high-at below b w e = ap (λ (x : ℕ). pos (cond below (span x / 2) (span x) - 1)) (sym e)
+
+-- in an i32
+pub low-fits : (below : Bool) (b : ℕ) → SFits w32 (lowEnd below b)
+low-fits below b = go below (eqb b 1) (eqb b 2)
+  where
+    go : (s one two : Bool) → SFits w32 (cond s (negsuc (span (cond one 1 (cond two 2 4)) / 2 - 1)) (pos 0))
+    go false one two = sfits-lit tt
+    go true true two = sfits-lit tt
+    go true false true = sfits-lit tt
+    go true false false = sfits-lit tt
+
+pub high-fits : (n : ℕ) → SFits w32 (clampSigned 4 (pos n))
+high-fits n =
+    ⊎-elim
+    (λ (h : 2147483647 < n). subst (SFits w32) (sym (pick-true _ _ (lt-ltb 2147483647 n h))) (sfits-lit tt))
+    (λ (h : n ≤ 2147483647). subst (SFits w32) (sym (pick-false _ _ (le-ltb 2147483647 n h))) (record { sfits = omega arith }))
+    (lt-or-le 2147483647 n)
+
+-- above what an i32 holds there is nothing to clamp
+not-above : (n : ℕ) (v : ℤ) → mag v < 2 ^ 31 → 2147483647 ≤ n → ltZ (pos n) v ≡ false
+not-above n (pos m) h l = le-ltb n m (omega arith)
+not-above n (negsuc m) h l = refl
+
+pub clamp-same : (low : ℤ) (n : ℕ) (v : ℤ) → mag v < 2 ^ 31 → clamp low (clampSigned 4 (pos n)) v ≡ clamp low (pos n) v
+clamp-same low n v h =
+    ⊎-elim
+    (λ (l : 2147483647 < n).
+    ap (λ (x : ℤ). clamp low x v) (pick-true _ _ (lt-ltb 2147483647 n l))
+    ∙ ap (λ (x : ℤ). cond (ltZ v low) low x) (pick-false _ _ (not-above 2147483647 v h (omega arith)) ∙ sym (pick-false _ _ (not-above n v h (omega arith)))))
+    (λ (l : n ≤ 2147483647). ap (λ (x : ℤ). clamp low x v) (pick-false _ _ (le-ltb 2147483647 n l)))
+    (lt-or-le 2147483647 n)
 
 -- ---- the value
 
@@ -105,9 +149,13 @@ pub mag-read : (sign : Bool) (b n : ℕ) → n < span b → mag (read sign b n) 
 mag-read true b n h = omega (arith, mag-signed b n h)
 mag-read false b n h = h
 
-pub reduced-is : (how : Reduce) (b z : ℕ) (old v : ℤ) → old ≡ read (how .sign) b z → v ≡ outcomeOf how old → wrap (span b) v ≡ reduceTo b how z
+pub cleared-is : (how : Reduce) (b z : ℕ) → how .clears ≡ true → 0 ≡ reduceTo b how z
 unfolding reduceTo
-reduced-is how b z old v eo ev = ap (wrap (span b)) (ev ∙ ap (outcomeOf how) eo)
+cleared-is how b z e = sym (ap (wrap (span b)) (pick-true _ _ e) ∙ zero-mod (span b))
+
+pub reduced-is : (how : Reduce) (b z : ℕ) (old v : ℤ) → how .clears ≡ false → old ≡ read (how .sign) b z → v ≡ valueOf how old → wrap (span b) v ≡ reduceTo b how z
+unfolding reduceTo
+reduced-is how b z old v e eo ev = ap (wrap (span b)) (ev ∙ ap (valueOf how) eo ∙ sym (pick-false _ _ e))
 
 -- one byte, as it is stored
 pub stores-1 : (s : List ℕ) (p n : ℕ) → n < 256 → set s p n ≡ sets s p (bytesOf 1 n)

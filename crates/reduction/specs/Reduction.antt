@@ -23,13 +23,9 @@ valueOf how old =
     let v : ℤ = (old +ℤ cond (how .rounds) (halfUnit (how .shift % 32)) (pos 0)) ≫ (how .shift % 32) in
     cond (how .clamps) (cond (how .below) (clampSigned (widthIn (how .width)) v) (clampUnsigned (widthIn (how .width)) v)) v
 
--- 0 where the output is forced to 0
-unfoldable pub outcomeOf : Reduce → ℤ → ℤ
-outcomeOf how old = cond (how .clears) (pos 0) (valueOf how old)
-
--- the number that a lane of b bytes receives
+-- the number that a lane of b bytes receives: 0 where the output is forced to 0
 unfoldable pub reduceTo : ℕ → Reduce → ℕ → ℕ
-reduceTo b how z = wrap (span b) (outcomeOf how (read (how .sign) b z))
+reduceTo b how z = wrap (span b) (cond (how .clears) (pos 0) (valueOf how (read (how .sign) b z)))
 
 -- ---- as the code has it
 
@@ -44,8 +40,11 @@ shiftedBy how old = (old +ℤ addedTo how) ≫ (how .shift % 32)
 abbrev pub lowEnd : Bool → ℕ → ℤ
 lowEnd below b = cond below (negsuc (span (widthIn b) / 2 - 1)) (pos 0)
 
+abbrev pub highest : Bool → ℕ → ℕ
+highest below b = cond below (span (widthIn b) / 2) (span (widthIn b)) - 1
+
 abbrev pub highEnd : Bool → ℕ → ℤ
-highEnd below b = pos (cond below (span (widthIn b) / 2) (span (widthIn b)) - 1)
+highEnd below b = pos (highest below b)
 
 -- a state with the lane of b bytes at a position so: the old number where it is off
 abbrev pub laneStored : ℕ → Reduce → List ℕ → ℕ → Bool → List ℕ

@@ -1,14 +1,17 @@
 // ALU mode 4 of vecint, which works on Z alone: one row.
 ghost use mathlib.Core.Path.{_≡_};
 ghost use mathlib.Core.Bool.{true, false, cond};
-ghost use Prim.Native.Nat.{_^_, _<_, _≤_};
+ghost use Prim.Native.Nat.{_+_, _%_, _^_, _<_, _≤_};
 ghost use lib.Dec.{eqb};
 ghost use lib.Signed.{mag};
 ghost use lib.ListN.{length, getD};
+ghost use lib.Seq.{sets};
+ghost use Rattle.number.specs.Bytes.{byteAt, number, bytesOf};
+ghost use Rattle.number.specs.Integers.{_≫_, clamp, clampSigned};
 ghost use Rattle.isa.specs.State.{stateLength};
 ghost use Rattle.isa.specs.Effect.{applied};
 ghost use Rattle.state.specs.Rows.{oneRow};
-ghost use Rattle.reduction.specs.Reduction.{widthIn, valueOf, outcomeOf, reduceTo, addedTo, shiftedBy, lowEnd, highEnd, laneStored, rowReduced};
+ghost use Rattle.reduction.specs.Reduction.{widthIn, valueOf, reduceTo, addedTo, shiftedBy, lowEnd, highEnd, laneStored, rowReduced};
 
 // What mode 4 does to a lane: Z is read as signed or not; what is shifted is rounded or not; the range that is clamped to reaches below 0 or not,
 // and has a width in bytes. Where the output is forced to 0, nothing else matters.
@@ -101,14 +104,99 @@ fn value(old: i64, how: Reduce) -> i64
     v
 }
 
-fn outcome(old: i64, how: Reduce) -> i64
-    requires { ⌜ mag old < 2 ^ 40 ⌝ }
-    ensures { λ r. ⌜ r ≡ outcomeOf how old ⌝ }
+// ---- the same in an i32, for lanes of up to 16 bits: with what rounding adds they fit it, and the compiler does several at a time
+
+fn rounding32(how: Reduce) -> i32
+    ensures { λ r. ⌜ (r ≡ addedTo how) × (mag r ≤ 2 ^ 30) ⌝ }
 {
-    if how.clears {
-        return 0;
+    rounding(how) as i32
+}
+
+fn shifted32(v: i32, s: u32) -> i32
+    ensures { λ r. ⌜ (r ≡ v ≫ (s % 32)) × (mag r ≤ mag v) ⌝ }
+{
+    v >> (s % 32)
+}
+
+fn moved32(old: i32, how: Reduce) -> i32
+    requires { ⌜ mag old < 2 ^ 16 ⌝ }
+    ensures { λ r. ⌜ r ≡ shiftedBy how old ⌝ }
+{
+    shifted32(old + rounding32(how), how.shift)
+}
+
+fn low32(below: bool, width: usize) -> i32
+    ensures { λ r. ⌜ r ≡ lowEnd below width ⌝ }
+{
+    low(below, width) as i32
+}
+
+// No more than an i32 holds.
+fn high32(below: bool, width: usize) -> i32
+    ensures { λ r. ⌜ r ≡ clampSigned 4 (highEnd below width) ⌝ }
+{
+    number::clamped(-2_147_483_648, 2_147_483_647, high(below, width)) as i32
+}
+
+fn clamped32(low: i32, high: i32, v: i32) -> i32
+    ensures { λ r. ⌜ r ≡ clamp low high v ⌝ }
+{
+    if v < low {
+        return low;
     }
-    value(old, how)
+    if high < v {
+        return high;
+    }
+    v
+}
+
+fn value32(old: i32, how: Reduce) -> i32
+    requires { ⌜ mag old < 2 ^ 16 ⌝ }
+    ensures { λ r. ⌜ r ≡ valueOf how old ⌝ }
+{
+    let v = moved32(old, how);
+    if how.clamps {
+        return clamped32(low32(how.below, how.width), high32(how.below, how.width), v);
+    }
+    v
+}
+
+// ---- numbers in bytes that are there
+
+fn load16(s: &[u8], at: usize) -> u16
+    requires { ⌜ at + 2 ≤ length (now s) ⌝ }
+    ensures { λ r. ⌜ r ≡ number 2 (byteAt (now (s .entry))) at ⌝ }
+{
+    number::pair(s[at], s[at + 1])
+}
+
+fn wide16(n: u16) -> u32
+    ensures { λ r. ⌜ (r ≡ n) × (r < 65536) ⌝ }
+{
+    n as u32
+}
+
+fn load32(s: &[u8], at: usize) -> u32
+    requires { ⌜ at + 4 ≤ length (now s) ⌝ }
+    ensures { λ r. ⌜ r ≡ number 4 (byteAt (now (s .entry))) at ⌝ }
+{
+    wide16(load16(s, at)) + 65536 * wide16(load16(s, at + 2))
+}
+
+fn store16(s: &mut [u8], at: usize, n: u16)
+    requires { ⌜ at + 2 ≤ length (now s) ⌝ }
+    ensures { λ _. ⌜ now (s .exit) ≡ sets (now (s .entry)) at (bytesOf 2 n) ⌝ }
+{
+    s[at] = (n % 256) as u8;
+    s[at + 1] = (n / 256) as u8;
+}
+
+fn store32(s: &mut [u8], at: usize, n: u32)
+    requires { ⌜ at + 4 ≤ length (now s) ⌝ }
+    ensures { λ _. ⌜ now (s .exit) ≡ sets (now (s .entry)) at (bytesOf 4 n) ⌝ }
+{
+    store16(s, at, (n % 65536) as u16);
+    store16(s, at + 2, (n / 65536) as u16);
 }
 
 // ---- lanes
@@ -116,19 +204,28 @@ fn outcome(old: i64, how: Reduce) -> i64
 fn new8(z: u8, how: Reduce) -> u8
     ensures { λ r. ⌜ r ≡ reduceTo 1 how z ⌝ }
 {
-    number::wrapped8(outcome(number::read8(how.sign, z) as i64, how))
+    if how.clears {
+        return 0;
+    }
+    number::wrapped8(value32(number::read8(how.sign, z), how) as i64)
 }
 
 fn new16(z: u16, how: Reduce) -> u16
     ensures { λ r. ⌜ r ≡ reduceTo 2 how z ⌝ }
 {
-    number::wrapped16(outcome(number::read16(how.sign, z) as i64, how))
+    if how.clears {
+        return 0;
+    }
+    number::wrapped16(value32(number::read16(how.sign, z), how) as i64)
 }
 
 fn new32(z: u32, how: Reduce) -> u32
     ensures { λ r. ⌜ r ≡ reduceTo 4 how z ⌝ }
 {
-    number::wrapped32(outcome(number::read32(how.sign, z), how))
+    if how.clears {
+        return 0;
+    }
+    number::wrapped32(value(number::read32(how.sign, z), how))
 }
 
 // The old number where the lane is off.
@@ -151,27 +248,30 @@ fn chosen32(on: bool, n: u32, z: u32) -> u32
 }
 
 fn lane8(state: &mut [u8], at: usize, on: bool, how: Reduce)
+    requires { ⌜ at + 1 ≤ length (now state) ⌝ }
     ensures { λ _. ⌜ now (state .exit) ≡ laneStored 1 how (now (state .entry)) at on ⌝ }
 {
-    let z = number::get8(state, at);
+    let z = state[at];
     let n = new8(z, how);
-    number::put8(state, at, chosen8(on, n, z));
+    state[at] = chosen8(on, n, z);
 }
 
 fn lane16(state: &mut [u8], at: usize, on: bool, how: Reduce)
+    requires { ⌜ at + 2 ≤ length (now state) ⌝ }
     ensures { λ _. ⌜ now (state .exit) ≡ laneStored 2 how (now (state .entry)) at on ⌝ }
 {
-    let z = number::get16(state, at);
+    let z = load16(state, at);
     let n = new16(z, how);
-    number::put16(state, at, chosen16(on, n, z));
+    store16(state, at, chosen16(on, n, z));
 }
 
 fn lane32(state: &mut [u8], at: usize, on: bool, how: Reduce)
+    requires { ⌜ at + 4 ≤ length (now state) ⌝ }
     ensures { λ _. ⌜ now (state .exit) ≡ laneStored 4 how (now (state .entry)) at on ⌝ }
 {
-    let z = number::get32(state, at);
+    let z = load32(state, at);
     let n = new32(z, how);
-    number::put32(state, at, chosen32(on, n, z));
+    store32(state, at, chosen32(on, n, z));
 }
 
 // ---- rows, a loop for each width: with the width and the count of lanes known the compiler does better

@@ -1,4 +1,5 @@
-use Rattle.reduction.proofs.Cases.{added-fits, added-is}
+use Rattle.reduction.proofs.Cases.{added-fits, added-is, sum-fits}
+use mir.Syntax.{w64}
 use mir.Facts.{toZ-ofZ}
 use borrow.Author.Needs.{sfits-of}
 use mathlib.Core.Path.{ap, _∙_}
@@ -15,7 +16,7 @@ rounding-requires c κs = search needs
 
 -- src/lib.rt:38:21
 add-shifted : tie.Need-add-shifted
-add-shifted c = added-fits (c .before .args .old) (c .rounding .result) (c .before .pre) (c .rounding .ensures .1)
+add-shifted c = added-fits w64 (c .before .args .old) (c .rounding .result) (c .before .fits .old) (sfits-of (c .rounding .ok)) (sum-fits (c .before .args .old) (c .rounding .result) (c .before .pre) (c .rounding .ensures .1))
 
 -- src/lib.rt:38:5
 shifted-requires : tie.Need-shifted-requires
@@ -23,7 +24,7 @@ shifted-requires c κs = search needs
 
 -- src/lib.rt:34:1
 returns : tie.Need-returns
-returns c = toZ-ofZ (sfits-of (c .shifted .ok)) ∙ c .shifted .ensures .0 ∙ ap (λ (x : ℤ). x ≫ (c .before .before .args .how .shift % 32)) (added-is (c .before .before .args .old) (c .before .rounding .result) (c .before .before .pre) (c .before .rounding .ensures .1) ∙ ap (λ (x : ℤ). c .before .before .args .old +ℤ x) (c .before .rounding .ensures .0))
+returns c = toZ-ofZ (sfits-of (c .shifted .ok)) ∙ c .shifted .ensures .0 ∙ ap (λ (x : ℤ). x ≫ (c .before .before .args .how .shift % 32)) (added-is w64 (c .before .before .args .old) (c .before .rounding .result) (c .before .before .fits .old) (sfits-of (c .before .rounding .ok)) (sum-fits (c .before .before .args .old) (c .before .rounding .result) (c .before .before .pre) (c .before .rounding .ensures .1)) ∙ ap (λ (x : ℤ). c .before .before .args .old +ℤ x) (c .before .rounding .ensures .0))
 
 pub moved-spec : {M : Type 1} → statement M
 moved-spec = tie.close (tie.spec rounding-requires add-shifted shifted-requires returns)
