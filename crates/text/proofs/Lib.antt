@@ -1,0 +1,4 @@
+pub mod Printed
+pub mod Pieces
+pub mod Decimal
+pub mod Text
