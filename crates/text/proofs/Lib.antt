@@ -2,3 +2,4 @@ pub mod Printed
 pub mod Pieces
 pub mod Decimal
 pub mod Text
+pub mod Lengths

@@ -2,7 +2,7 @@
 -- Assumes nothing.
 use mathlib.Core.Bool.{cond}
 use mathlib.Core.List.{List, [], _∷_, _++_}
-use Prim.Native.Nat.{ℕ, zero, suc, _+_, _/_, _%_}
+use Prim.Native.Nat.{ℕ, zero, suc, _+_, _-_, _/_, _%_}
 use lib.Dec.{ltb}
 use Rattle.isa.specs.declared.Answer.{Answer}
 use Rattle.isa.specs.declared.Answer.the-variants.{Done, NoOp, Refused}
@@ -21,7 +21,7 @@ digits n = lastDigits (suc n) n
 
 -- 0 to 9, then a to f
 abbrev pub hexDigit : ℕ → ℕ
-hexDigit d = cond (ltb d 10) (48 + d) (87 + d)
+hexDigit d = cond (ltb d 10) (48 + d) (97 + (d - 10))
 
 -- two digits for each byte, the high one first
 unfoldable pub hex : List ℕ → List ℕ

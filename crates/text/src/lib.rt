@@ -1,5 +1,5 @@
 // The lines that a trace prints, each stored in a lent buffer from a position on. A byte past the buffer's end is not stored, and the result is the
-// position after the line all the same: past the buffer's length where the line did not fit. Every function takes every argument.
+// position after the line all the same: past the buffer's length where the line did not fit. Every function that is pub takes every argument.
 ghost use mathlib.Core.Path.{_≡_};
 ghost use mathlib.Core.List.{_∷_, [], _++_};
 ghost use Prim.Native.Nat.{_+_, _≤_, _<_, _^_, _/_, _%_};
@@ -7,7 +7,7 @@ ghost use lib.ListN.{length};
 ghost use lib.Seq.{sets};
 ghost use Rattle.text.specs.Lines.{digits, hexDigit, hex, answerText, stepLine, zLine, stepsLine, refusedLine};
 
-// ---- bytes and words
+// ---- bytes and words, with the position after them for the result
 
 fn put(out: &mut [u8], at: usize, b: u8) -> usize
     requires { ⌜ at < 2 ^ 62 ⌝ }
@@ -36,10 +36,10 @@ fn put_decimal(out: &mut [u8], at: usize, n: u64) -> usize
     ensures short { λ r. ⌜ r ≤ at + 20 ⌝ }
 {
     if n < 10 {
-        return put(out, at, 48 + n as u8);
+        return put(out, at, b'0' + n as u8);
     }
     let next = put_decimal(out, at, n / 10);
-    put(out, next, 48 + (n % 10) as u8)
+    put(out, next, b'0' + (n % 10) as u8)
 }
 
 // A word and a number.
@@ -56,9 +56,10 @@ fn hex_digit(d: u8) -> u8
     requires { ⌜ d < 16 ⌝ }
     ensures { λ r. ⌜ r ≡ hexDigit d ⌝ }
 {
-    if d < 10 { 48 + d } else { 87 + d }
+    if d < 10 { b'0' + d } else { b'a' + (d - 10) }
 }
 
+// Two digits for a byte, the high one first.
 fn put_hex8(out: &mut [u8], at: usize, b: u8)
     requires { ⌜ at < 2 ^ 62 ⌝ }
     ensures { λ _. ⌜ now (out .exit) ≡ sets (now (out .entry)) at (hexDigit (b / 16) ∷ hexDigit (b % 16) ∷ []) ⌝ }
@@ -92,6 +93,7 @@ fn put_answer(out: &mut [u8], at: usize, answer: isa::Answer) -> usize
     }
 }
 
+// A step's place and its answer.
 pub fn step_line(out: &mut [u8], at: u32, place: u32, answer: isa::Answer) -> usize
     ensures { λ r. ⌜ (now (out .exit) ≡ sets (now (out .entry)) at (stepLine place answer)) × (r ≡ at + length (stepLine place answer)) ⌝ }
 {
@@ -101,6 +103,7 @@ pub fn step_line(out: &mut [u8], at: u32, place: u32, answer: isa::Answer) -> us
     put(out, next, b'\n')
 }
 
+// A row of Z and its bytes.
 pub fn z_line(out: &mut [u8], at: u32, row: u32, bytes: &[u8; 64]) -> usize
     ensures { λ r. ⌜ (now (out .exit) ≡ sets (now (out .entry)) at (zLine row (now (bytes .entry)))) × (r ≡ at + length (zLine row (now (bytes .entry)))) ⌝ }
 {
@@ -110,6 +113,7 @@ pub fn z_line(out: &mut [u8], at: u32, row: u32, bytes: &[u8; 64]) -> usize
     put(out, next, b'\n')
 }
 
+// The number of steps.
 pub fn steps_line(out: &mut [u8], at: u32, n: u32) -> usize
     ensures { λ r. ⌜ (now (out .exit) ≡ sets (now (out .entry)) at (stepsLine n)) × (r ≡ at + length (stepsLine n)) ⌝ }
 {
@@ -117,7 +121,7 @@ pub fn steps_line(out: &mut [u8], at: u32, n: u32) -> usize
     put(out, next, b'\n')
 }
 
-// The line of a file that is refused.
+// The refusal of a file.
 pub fn refused_line(out: &mut [u8], at: u32, number: u32) -> usize
     ensures { λ r. ⌜ (now (out .exit) ≡ sets (now (out .entry)) at (refusedLine number)) × (r ≡ at + length (refusedLine number)) ⌝ }
 {
