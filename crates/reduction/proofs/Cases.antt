@@ -5,7 +5,7 @@ use mathlib.Core.Bool.{Bool, true, false, cond, not, _&&_}
 use mathlib.Core.List.{List}
 use mathlib.Core.Logic.{⊎-elim}
 use Prim.Native.Nat.{ℕ, zero, suc, _+_, _-_, _*_, _/_, _%_, _^_, _≤_, _<_}
-use native.Mathlib.Nat.{mod-lt, mod-eq-of-lt, zero-lt-suc}
+use native.Mathlib.Nat.{mod-lt, mod-eq-of-lt, zero-lt-suc, zero-mod}
 use native.Mathlib.Omega.{arith}
 use borrow.Author.Tests.{ne-eqb, lt-ltb, le-ltb}
 use lib.Dec.{eqb}
@@ -25,7 +25,7 @@ use Rattle.number.proofs.Tests.{pick-true, pick-false, lt-or-le}
 use Rattle.isa.specs.Effect.{applied}
 use Rattle.state.proofs.RunLoop.{run-outside}
 use Rattle.reduction.specs.declared.Reduce.{Reduce}
-use Rattle.reduction.specs.Reduction.{widthIn, valueOf, outcomeOf, reduceTo, addedTo, shiftedBy, lowEnd, highEnd, laneStored, rowReduced}
+use Rattle.reduction.specs.Reduction.{widthIn, valueOf, reduceTo, addedTo, shiftedBy, lowEnd, highEnd, laneStored, rowReduced}
 
 -- ---- widths
 
@@ -149,9 +149,13 @@ pub mag-read : (sign : Bool) (b n : ℕ) → n < span b → mag (read sign b n) 
 mag-read true b n h = omega (arith, mag-signed b n h)
 mag-read false b n h = h
 
-pub reduced-is : (how : Reduce) (b z : ℕ) (old v : ℤ) → old ≡ read (how .sign) b z → v ≡ outcomeOf how old → wrap (span b) v ≡ reduceTo b how z
+pub cleared-is : (how : Reduce) (b z : ℕ) → how .clears ≡ true → 0 ≡ reduceTo b how z
 unfolding reduceTo
-reduced-is how b z old v eo ev = ap (wrap (span b)) (ev ∙ ap (outcomeOf how) eo)
+cleared-is how b z e = sym (ap (wrap (span b)) (pick-true _ _ e) ∙ zero-mod (span b))
+
+pub reduced-is : (how : Reduce) (b z : ℕ) (old v : ℤ) → how .clears ≡ false → old ≡ read (how .sign) b z → v ≡ valueOf how old → wrap (span b) v ≡ reduceTo b how z
+unfolding reduceTo
+reduced-is how b z old v e eo ev = ap (wrap (span b)) (ev ∙ ap (valueOf how) eo ∙ sym (pick-false _ _ e))
 
 -- one byte, as it is stored
 pub stores-1 : (s : List ℕ) (p n : ℕ) → n < 256 → set s p n ≡ sets s p (bytesOf 1 n)

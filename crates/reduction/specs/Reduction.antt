@@ -23,13 +23,9 @@ valueOf how old =
     let v : ℤ = (old +ℤ cond (how .rounds) (halfUnit (how .shift % 32)) (pos 0)) ≫ (how .shift % 32) in
     cond (how .clamps) (cond (how .below) (clampSigned (widthIn (how .width)) v) (clampUnsigned (widthIn (how .width)) v)) v
 
--- 0 where the output is forced to 0
-unfoldable pub outcomeOf : Reduce → ℤ → ℤ
-outcomeOf how old = cond (how .clears) (pos 0) (valueOf how old)
-
--- the number that a lane of b bytes receives
+-- the number that a lane of b bytes receives: 0 where the output is forced to 0
 unfoldable pub reduceTo : ℕ → Reduce → ℕ → ℕ
-reduceTo b how z = wrap (span b) (outcomeOf how (read (how .sign) b z))
+reduceTo b how z = wrap (span b) (cond (how .clears) (pos 0) (valueOf how (read (how .sign) b z)))
 
 -- ---- as the code has it
 

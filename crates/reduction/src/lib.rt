@@ -11,7 +11,7 @@ ghost use Rattle.number.specs.Integers.{_≫_, clamp, clampSigned};
 ghost use Rattle.isa.specs.State.{stateLength};
 ghost use Rattle.isa.specs.Effect.{applied};
 ghost use Rattle.state.specs.Rows.{oneRow};
-ghost use Rattle.reduction.specs.Reduction.{widthIn, valueOf, outcomeOf, reduceTo, addedTo, shiftedBy, lowEnd, highEnd, laneStored, rowReduced};
+ghost use Rattle.reduction.specs.Reduction.{widthIn, valueOf, reduceTo, addedTo, shiftedBy, lowEnd, highEnd, laneStored, rowReduced};
 
 // What mode 4 does to a lane: Z is read as signed or not; what is shifted is rounded or not; the range that is clamped to reaches below 0 or not,
 // and has a width in bytes. Where the output is forced to 0, nothing else matters.
@@ -204,19 +204,28 @@ fn store32(s: &mut [u8], at: usize, n: u32)
 fn new8(z: u8, how: Reduce) -> u8
     ensures { λ r. ⌜ r ≡ reduceTo 1 how z ⌝ }
 {
+    if how.clears {
+        return 0;
+    }
     number::wrapped8(value32(number::read8(how.sign, z), how) as i64)
 }
 
 fn new16(z: u16, how: Reduce) -> u16
     ensures { λ r. ⌜ r ≡ reduceTo 2 how z ⌝ }
 {
+    if how.clears {
+        return 0;
+    }
     number::wrapped16(value32(number::read16(how.sign, z), how) as i64)
 }
 
 fn new32(z: u32, how: Reduce) -> u32
     ensures { λ r. ⌜ r ≡ reduceTo 4 how z ⌝ }
 {
-    number::wrapped32(outcome(number::read32(how.sign, z), how))
+    if how.clears {
+        return 0;
+    }
+    number::wrapped32(value(number::read32(how.sign, z), how))
 }
 
 // The old number where the lane is off.

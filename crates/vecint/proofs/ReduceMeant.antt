@@ -22,7 +22,7 @@ use Rattle.operand.proofs.Fields.{bits-lt}
 use Rattle.operand.proofs.Rows.{by-rows}
 use Rattle.operand.proofs.Widths.{z-width-cases, saturation-cases, rows-reducing}
 use Rattle.reduction.specs.declared.Reduce.{Reduce}
-use Rattle.reduction.specs.Reduction.{widthIn, valueOf, outcomeOf, reduceTo}
+use Rattle.reduction.specs.Reduction.{widthIn, valueOf, reduceTo}
 use Rattle.state.specs.Rows.{oneRow, dealt}
 use Rattle.state.proofs.Holds.{Bytes}
 use Rattle.state.proofs.Dealing.{dealt-same, one-dealt}
@@ -47,7 +47,7 @@ shift-lt op = mod-eq-of-lt (by (Vecint.saturates op))
 -- the number that a lane receives
 lane-reduced : (gen op : ℕ) (xy : List ℕ) (v k z : ℕ) → Vecint.reduces op ≡ true
     → reduceTo (Vecint.zWidth op) (reduceBy gen op) z ≡ wrap (span (Vecint.zWidth op)) (Vecint.result gen op xy v k z)
-unfolding reduceTo outcomeOf valueOf Vecint.result Vecint.reduced
+unfolding reduceTo valueOf Vecint.result Vecint.reduced
 lane-reduced gen op xy v k z is =
     (λ i. wrap (span (Vecint.zWidth op)) (cond (Vecint.forcesZero gen op) (pos 0)
     (cond (bit op 30)

@@ -1,3 +1,5 @@
+use mathlib.Core.Path.{refl, sym, ap, _∙_}
+use Rattle.isa.specs.Answers.{normalNumber}
 use borrow.Author.Needs.{needs}
 use Rattle.amx.proofs.amx_normal_answer.Statement.{statement}
 use Rattle.amx.proofs.amx_normal_answer.Tie as tie
@@ -16,7 +18,7 @@ normal-number-requires c κs = search needs
 
 -- src/lib.rt:55:1
 returns : tie.Need-returns
-returns c = ?
+returns c = c .normal-number .ensures ∙ ap normalNumber (c .before .normal .ensures)
 
 pub amx-normal-answer-spec : {M : Type 1} → statement M
 amx-normal-answer-spec = tie.close (tie.spec normal-requires normal-number-requires returns)

@@ -1,3 +1,5 @@
+use mathlib.Core.Path.{refl, sym, ap, _∙_}
+use Rattle.isa.specs.Normal.{handedBack}
 use borrow.Author.Needs.{needs}
 use Rattle.amx.proofs.amx_normal_operand.Statement.{statement}
 use Rattle.amx.proofs.amx_normal_operand.Tie as tie
@@ -23,15 +25,15 @@ enum-told-2 c = search needs
 
 -- src/lib.rt:63:1
 returns : tie.Need-returns
-returns c = ?
+returns c = ap (handedBack (c .before .before .before .before .args .operand)) (sym (c .before .found .given .1) ∙ c .before .before .before .normal .ensures)
 
 -- src/lib.rt:63:1
 returns-2 : tie.Need-returns-2
-returns-2 c = ?
+returns-2 c = ap (handedBack (c .before .before .before .args .operand)) (sym (c .enum-told .given .1) ∙ c .before .before .normal .ensures)
 
 -- src/lib.rt:63:1
 returns-3 : tie.Need-returns-3
-returns-3 c = ?
+returns-3 c = ap (handedBack (c .before .before .before .args .operand)) (sym (c .enum-told2 .given .1) ∙ c .before .before .normal .ensures)
 
 pub amx-normal-operand-spec : {M : Type 1} → statement M
 amx-normal-operand-spec =

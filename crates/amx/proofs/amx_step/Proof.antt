@@ -1,3 +1,5 @@
+use mathlib.Core.Path.{refl, sym, ap, _∙_}
+use Rattle.isa.specs.Answers.{hostNumber}
 use borrow.Author.Needs.{needs}
 use Rattle.amx.proofs.amx_step.Statement.{statement}
 use Rattle.amx.proofs.amx_step.Tie as tie
@@ -20,7 +22,7 @@ same-length c = search needs
 
 -- src/lib.rt:47:1
 returns : tie.Need-returns
-returns c = ?
+returns c = (c .before .before .before .step .ensures .0, c .host-number .ensures ∙ ap hostNumber (c .before .before .before .step .ensures .1))
 
 pub amx-step-spec : {M : Type 1} → statement M
 amx-step-spec = tie.close (tie.spec step-requires host-number-requires same-length returns)

@@ -1,3 +1,6 @@
+use mathlib.Core.Path.{refl, sym, ap, _∙_}
+use borrow.Author.Tests.{eq-eqb, ne-eqb}
+use Rattle.amx.proofs.Table.{ran-mac16, ran-vecint}
 use borrow.Author.Needs.{needs}
 use Rattle.amx.proofs.run.Statement.{statement}
 use Rattle.amx.proofs.run.Tie as tie
@@ -16,7 +19,7 @@ same-length c = search needs
 
 -- src/lib.rt:20:9
 returns : tie.Need-returns
-returns c = ?
+returns c = ran-mac16 (c .before .before .before .before .before .before .args .instruction) (c .before .before .before .before .before .before .args .generation) (c .before .before .before .before .before .before .args .operand) (c .before .before .before .before .before .before .args .state .now) (c .before .before .step .last .0) (c .before .before .step .result) (eq-eqb (c .before .before .before .before .before .before .args .instruction) 14 (c .before .before .before .before .if1 .taken)) (c .before .before .step .ensures)
 
 -- src/lib.rt:22:5
 step-requires-2 : tie.Need-step-requires-2
@@ -28,7 +31,7 @@ same-length-2 c = search needs
 
 -- src/lib.rt:14:1
 returns-2 : tie.Need-returns-2
-returns-2 c = ?
+returns-2 c = ran-vecint (c .before .before .before .before .before .before .args .instruction) (c .before .before .before .before .before .before .args .generation) (c .before .before .before .before .before .before .args .operand) (c .before .before .before .before .before .before .args .state .now) (c .before .before .step2 .last .0) (c .before .before .step2 .result) (ne-eqb (c .before .before .before .before .before .before .args .instruction) 14 (c .before .before .before .before .if1 .left)) (c .before .before .step2 .ensures)
 
 pub run-spec : {M : Type 1} → statement M
 run-spec =

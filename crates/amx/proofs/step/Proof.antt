@@ -1,3 +1,6 @@
+use mathlib.Core.Path.{refl, sym, ap, _∙_}
+use Rattle.isa.specs.declared.Answer.the-variants as answer
+use Rattle.amx.proofs.Table.{step-done, step-not}
 use borrow.Author.Needs.{needs}
 use Rattle.amx.proofs.step.Statement.{statement}
 use Rattle.amx.proofs.step.Tie as tie
@@ -32,15 +35,15 @@ same-length c = search needs
 
 -- src/lib.rt:26:1
 returns : tie.Need-returns
-returns c = ?
+returns c = step-done (c .before .before .before .before .before .before .before .before .args .instruction) (c .before .before .before .before .before .before .before .before .args .generation) (c .before .before .before .before .before .before .before .before .args .operand) (c .before .before .before .before .before .before .before .before .args .state .now) (c .before .before .before .before .before .before .answered .result) (answer.Done (c .before .before .before .before .enum-told .given .0 .0)) (c .before .before .before .before .before .before .answered .ensures) (c .before .before .before .before .enum-told .given .1) (c .before .before .before .before .enum-told .given .0 .0) (c .before .before .run .result) (c .before .before .run .last .0) refl (c .before .before .run .ensures .0) (c .before .before .run .ensures .1)
 
 -- src/lib.rt:26:1
 returns-2 : tie.Need-returns-2
-returns-2 c = ?
+returns-2 c = step-not (c .before .before .before .before .before .args .instruction) (c .before .before .before .before .before .args .generation) (c .before .before .before .before .before .args .operand) (c .before .before .before .before .before .args .state .now) (c .before .before .before .answered .result) (answer.NoOp (c .before .answer .given .0 .0)) (c .before .before .before .answered .ensures) (c .before .answer .given .1) refl
 
 -- src/lib.rt:26:1
 returns-3 : tie.Need-returns-3
-returns-3 c = ?
+returns-3 c = step-not (c .before .before .before .before .before .args .instruction) (c .before .before .before .before .before .args .generation) (c .before .before .before .before .before .args .operand) (c .before .before .before .before .before .args .state .now) (c .before .before .before .answered .result) (answer.Refused (c .before .answer2 .given .0 .0)) (c .before .before .before .answered .ensures) (c .before .answer2 .given .1) refl
 
 pub step-spec : {M : Type 1} → statement M
 step-spec =
