@@ -1,14 +1,15 @@
 // The proved unit against the C version, built for the baseline target and for this machine, in one run.
-// First all do the same random steps, and every answer and byte is compared; then forms of both instructions are timed, and a mixed list.
+// First all do the same random steps, the last version with the normal operand, and every answer and byte is compared; then forms of both instructions are timed, and a mixed list.
 // The buffers start equal and are not cleared between the runs. Ratios are of medians of interleaved runs; below 1 the proved unit is faster.
 #include <stdint.h>
 #include <stdio.h>
 #include <stdlib.h>
 #include <string.h>
 #include <time.h>
+#include "../include/amx.h"
 
 typedef uint64_t step(uint8_t *state, uint64_t length, uint64_t instruction, uint64_t generation, uint64_t operand);
-step amx_step, unit_baseline, unit_native;
+step unit_baseline, unit_native;
 
 struct call { uint64_t length, instruction, generation, operand; };
 
@@ -61,18 +62,24 @@ static struct call draw(void) {
 
 static uint64_t run(int v, struct call c) { return version[v](state[v], c.length, c.instruction, c.generation, c.operand); }
 
+static void differ(const char *what, int n, struct call c) {
+    fprintf(stderr, "%s at step %d: length %llu, instruction %llu, generation %llu, operand %016llx\n", what, n, (unsigned long long)c.length,
+            (unsigned long long)c.instruction, (unsigned long long)c.generation, (unsigned long long)c.operand);
+    exit(1);
+}
+
 static void compare(void) {
     int done = 0, no_op[4] = {0}, refused[5] = {0};
     for (int n = 0; n < RANDOM_STEPS; n++) {
         if (n % 64 == 0) fill(n / 64 % 2);
-        struct call c = draw();
+        struct call c = draw(), normal = c;
+        normal.operand = amx_normal_operand(c.instruction, c.generation, c.operand);
         uint64_t answer = run(0, c);
         for (int v = 1; v < VERSIONS; v++)
-            if (run(v, c) != answer || memcmp(state[v], state[0], ROOM)) {
-                fprintf(stderr, "the versions differ at step %d: length %llu, instruction %llu, generation %llu, operand %016llx\n", n, (unsigned long long)c.length,
-                        (unsigned long long)c.instruction, (unsigned long long)c.generation, (unsigned long long)c.operand);
-                exit(1);
-            }
+            if (run(v, v + 1 < VERSIONS ? c : normal) != answer || memcmp(state[v], state[0], ROOM)) differ("the versions differ", n, c);
+        uint64_t asked = amx_normal_answer(c.instruction, c.generation, c.operand);
+        if (c.length == LENGTH && asked != (answer < NO_OP ? 0 : answer)) differ("the normal operand is answered otherwise", n, c);
+        if (normal.operand != amx_normal_operand(c.instruction, c.generation, normal.operand)) differ("the normal operand is not normal", n, c);
         if (answer < NO_OP) done++;
         else if (answer < REFUSED) no_op[answer - NO_OP]++;
         else refused[answer - REFUSED]++;

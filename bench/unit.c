@@ -46,6 +46,7 @@ static inline void row16(uint8_t *restrict z, const int16_t *restrict x, const i
 static void row32(uint8_t *restrict z, const int16_t *restrict x, const int32_t *restrict mask, int16_t y, int shift, int32_t keep) {
     int32_t old[16];
     memcpy(old, z, 64);
+#pragma GCC unroll 1 // unrolled, gcc does one lane at a time
     for (int l = 0; l < 16; l++) {
         int32_t sum = (uint32_t)(keep & old[l]) + (uint32_t)((int32_t)x[l] * y >> shift);
         old[l] = (sum & mask[l]) | (old[l] & ~mask[l]);

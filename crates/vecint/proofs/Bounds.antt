@@ -2,7 +2,7 @@
 -- Assumes nothing.
 use mathlib.Core.Path.{_≡_, refl}
 use mathlib.Core.Bool.{Bool, true, false}
-use Prim.Native.Nat.{ℕ, _+_, _*_, _≤_, _<_}
+use Prim.Native.Nat.{ℕ, _+_, _*_, _%_, _≤_, _<_}
 use native.Mathlib.Omega.{arith}
 use lib.Arith.{digits-lt}
 use Rattle.vecint.specs.Accumulation.{zBytes, zLanes}
@@ -12,18 +12,11 @@ fits true = refl
 fits false = refl
 
 -- lane l of the row that has place q of c
-pub place-in : (wide : Bool) (l q c lanes : ℕ) → lanes ≡ zLanes wide → l < lanes → q < c → zLanes wide * c ≤ 64 → l * c + q < 64
-place-in wide l q c lanes e hl hq h =
-    let below : l < zLanes wide = omega (arith, e) in
-    let place : l * c + q < zLanes wide * c = digits-lt below hq in
+pub place-in : (wide : Bool) (l q c : ℕ) → l < zLanes wide → q < c → zLanes wide * c ≤ 64 → l * c + q < 64
+place-in wide l q c hl hq h =
+    let place : l * c + q < zLanes wide * c = digits-lt hl hq in
     omega arith
 
-pub bytes-in : (wide : Bool) (l bytes lanes : ℕ) → bytes ≡ zBytes wide → lanes ≡ zLanes wide → l < lanes → l * bytes ≤ 64
-bytes-in true l bytes lanes eb el h = ap-le (omega arith)
-  where
-    ap-le : l * 4 ≤ 64 → l * bytes ≤ 64
-    ap-le x = rw eb x
-bytes-in false l bytes lanes eb el h = ap-le (omega arith)
-  where
-    ap-le : l * 2 ≤ 64 → l * bytes ≤ 64
-    ap-le x = rw eb x
+-- where a lane of a row lies
+pub lane-at : (row x : ℕ) → row < 64 → 1024 + row % 64 * 64 + x ≡ 1024 + (row * 64 + x)
+lane-at row x h = omega arith

@@ -4,13 +4,13 @@ use mathlib.Core.Path.{_≡_, refl, sym, ap, ap₂, _∙_, subst}
 use mathlib.Core.Bool.{Bool, true, false, cond}
 use mathlib.Core.List.{List}
 use mathlib.Core.Logic.{_⊎_, inl, inr}
-use Prim.Native.Nat.{ℕ, zero, suc, _+_, _*_, _%_, _^_, _≤_, _<_}
+use Prim.Native.Nat.{ℕ, zero, suc, _+_, _*_, _/_, _%_, _^_, _≤_, _<_}
 use native.Mathlib.Omega.{arith}
 use lib.IntN.{ℤ, pos, negsuc, negℤ, _+ℤ_, _*ℤ_}
 use lib.ListN.{take}
 use lib.Pow.{pow-pos}
 use lib.Seq.{getD-take}
-use lib.Signed.{mag, mag-shr}
+use lib.Signed.{mag, shrZ, mag-shr}
 use Rattle.number.specs.Bytes.{span, byteAt, number}
 use Rattle.number.specs.Integers.{signed, read, kept, clampSigned}
 use Rattle.number.proofs.Range.{kept-same, mag-add, mag-mul, mag-signed}
@@ -92,12 +92,11 @@ skip-small : (skip : Bool) (x : ℤ) → mag x < 65536 → mag (cond skip (pos 0
 skip-small true x h = omega arith
 skip-small false x h = h
 
-pub term-small : (how : Alu) (s : ℕ) (x y : ℤ) → mag x < 65536 → mag y < 65536 → Small (termBy how s x y)
-unfolding termOf
-term-small how s x y hx hy =
-    let made : mag (cond (how .sums) (x′ +ℤ y′) (x′ *ℤ y′)) < 2 ^ 33 = by (how .sums) in
-    let all : mag (cond (how .sums) (x′ +ℤ y′) (x′ *ℤ y′) +ℤ cond (how .clamps) (pos 16384) (pos 0)) < 2 ^ 33 + 16385 = mag-add (cond (how .sums) (x′ +ℤ y′) (x′ *ℤ y′)) (cond (how .clamps) (pos 16384) (pos 0)) made (half (how .clamps)) in
-    omega (arith, all, mag-shr (cond (how .sums) (x′ +ℤ y′) (x′ *ℤ y′) +ℤ cond (how .clamps) (pos 16384) (pos 0)) (2 ^ s))
+-- before the shift
+made-small : (how : Alu) (x y : ℤ) → mag x < 65536 → mag y < 65536
+    → mag (cond (how .sums) (cond (how .skipx) (pos 0) x +ℤ cond (how .skipy) (pos 0) y) (cond (how .skipx) (pos 0) x *ℤ cond (how .skipy) (pos 0) y) +ℤ cond (how .clamps) (pos 16384) (pos 0)) < 2 ^ 33 + 16385
+made-small how x y hx hy =
+    mag-add (cond (how .sums) (x′ +ℤ y′) (x′ *ℤ y′)) (cond (how .clamps) (pos 16384) (pos 0)) (by (how .sums)) (half (how .clamps))
   where
     x′ : ℤ
     x′ = cond (how .skipx) (pos 0) x
@@ -112,3 +111,19 @@ term-small how s x y hx hy =
     half : (b : Bool) → mag (cond b (pos 16384) (pos 0)) < 16385
     half true = omega arith
     half false = omega arith
+
+mag-shift : (v : ℤ) (m : ℕ) → mag (shrZ v m) ≡ mag v / m
+mag-shift (pos n) m = refl
+mag-shift (negsuc n) m = refl
+
+pub term-small : (how : Alu) (s : ℕ) (x y : ℤ) → mag x < 65536 → mag y < 65536 → Small (termBy how s x y)
+unfolding termOf
+term-small how s x y hx hy = omega (arith, made-small how x y hx hy, mag-shr _ (2 ^ s))
+
+-- a term that is shifted by 15 is kept whole in 4 bytes
+pub term-whole : (how : Alu) (s : ℕ) (x y : ℤ) → s ≡ 15 → mag x < 65536 → mag y < 65536 → kept 4 (termBy how s x y) ≡ termBy how s x y
+unfolding termOf
+term-whole how s x y e hx hy =
+    ap (λ (n : ℕ). kept 4 (termBy how n x y)) e
+    ∙ kept-same 4 (termBy how 15 x y) (omega (arith, made-small how x y hx hy, mag-shift _ (2 ^ 15)))
+    ∙ ap (λ (n : ℕ). termBy how n x y) (sym e)

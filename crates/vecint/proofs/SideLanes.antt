@@ -5,7 +5,7 @@ use mathlib.Core.Bool.{Bool, true, false, cond, _&&_, _||_}
 use mathlib.Core.Bool as B
 use mathlib.Core.List.{List}
 use Prim.Native.Nat.{ℕ, zero, suc, _+_, _*_, _/_, _%_, _≤_, _<_}
-use native.Mathlib.Nat.{zero-add, zero-mod}
+use native.Mathlib.Nat.{zero-add, zero-mod, mod-eq-of-lt}
 use mathlib.Core.Logic.{_⊎_, inl, inr}
 use native.Mathlib.Omega.{arith}
 use lib.Dec.{eqb}
@@ -14,16 +14,18 @@ use lib.ListN.{getD, take}
 use lib.Pow.{pow-pos}
 use lib.Seq.{getD-take}
 use Rattle.number.specs.Bytes.{span, byteAt, number, table}
-use Rattle.number.specs.Integers.{signed, read}
+use Rattle.number.specs.Integers.{read, kept}
 use Rattle.number.proofs.Bytes.{getD-table, number-same}
 use Rattle.number.proofs.Range.{signed-low}
 use Rattle.isa.specs.Operand.{bits, bit}
 use Rattle.isa.specs.State.{xBase, yBase, lanesOf, loaded}
 use Rattle.isa.specs.Vecint as Vecint
 use Rattle.operand.proofs.Widths.{by-widths, lanes-dealt, narrower-cases}
-use Rattle.sides.specs.Sides.{laneOf, laneBytes, indexOf, sideOf}
-use Rattle.sides.proofs.Elements.{side-at}
-use Rattle.vecint.specs.Vectors.{vectorLanes, fixedY, laneY}
+use Rattle.sides.specs.Sides.{laneOf, laneBytes, indexOf, termOf, sideBy, keptTerms}
+use Rattle.sides.specs.declared.SideForm.{SideForm}
+use Rattle.sides.proofs.Elements.{side-at, kept-at}
+use Rattle.vecint.specs.Vectors.{vectorLanes, xBytesOf, yBytesOf, xSideOf, ySideOf, fixedY, laneY, HoldsTerms}
+use Rattle.vecint.specs.declared.Alu.{Alu}
 
 -- ---- a lane of the bytes loaded
 
@@ -121,65 +123,59 @@ module _ (gen op : ℕ) (s : List ℕ) (v : ℕ) (skip : Bool) (not : Vecint.red
       few (inl e) h = omega (arith, subst (λ (n : ℕ). k < lanesOf n) e h)
       few (inr e) h = omega (arith, subst (λ (n : ℕ). k < lanesOf n) e h)
 
-  module _ (wide sign fixed halved bl : Bool) (lane from : ℕ) (xs : List ℤ) (bytes : List ℕ) (ex : xs ≡ sideOf wide sign bytes fixed lane halved) where
-    pub x-lanes : bytes ≡ table (λ i. cond bl 0 (loaded s xBase from i)) 0 64 → bl ≡ cond skip true (Vecint.overrides gen op 4 4)
-        → from ≡ bits op 10 18 + cond (Vecint.broadcasts gen op 2 6) 0 (64 * v)
-        → wide ≡ eqb (Vecint.widths op .x) 2 → halved ≡ eqb (Vecint.widths op .y) 1 → sign ≡ bit op 63 → fixed ≡ Vecint.broadcasts gen op 6 6 → lane ≡ 0
-        → getD xs k (pos 0) ≡ cond skip (pos 0) (Vecint.xOf gen op (take 1024 s) v k)
-    unfolding Vecint.xOf Vecint.xBytes Vecint.xIndex
-    x-lanes eb el ef ew eh es efx e0 =
-        (λ t. getD (ex t) k (pos 0))
-        ∙ (λ t. getD (sideOf (ew t) (es t) (loads t) (efx t) (e0 t) (eh t)) k (pos 0))
-        ∙ side-at (eqb b 2) (bit op 63) (table (λ i. cond (cond skip true ov) 0 (loaded s xBase off i)) 0 64) fx 0 (eqb (Vecint.widths op .y) 1) k in-list
-        ∙ side-lane b (Vecint.widths op .y) n (x-sided op) (bit op 63) skip ov fx 0 k (loaded s xBase off) (loaded (take 1024 s) xBase off) in-side (λ i l. of-xy s xBase off i (omega arith))
-        ∙ ap (λ (j : ℕ). cond skip (pos 0) (read (bit op 63) b (number b (λ i. cond ov 0 (loaded (take 1024 s) xBase off i)) (b * cond fx j (k / (b / n)))))) (zero-mod (lanesOf b))
-      where
-        b : ℕ
-        b = Vecint.widths op .x
+  pub x-lanes : getD (sideBy (xSideOf gen op) (xBytesOf gen op s v skip)) k (pos 0) ≡ cond skip (pos 0) (Vecint.xOf gen op (take 1024 s) v k)
+  unfolding Vecint.xOf Vecint.xBytes Vecint.xIndex
+  x-lanes =
+      side-at (eqb b 2) (bit op 63) (xBytesOf gen op s v skip) fx 0 (eqb (Vecint.widths op .y) 1) k in-list
+      ∙ side-lane b (Vecint.widths op .y) n (x-sided op) (bit op 63) skip ov fx 0 k (loaded s xBase off) (loaded (take 1024 s) xBase off) in-side (λ i l. of-xy s xBase off i (omega arith))
+      ∙ ap (λ (j : ℕ). cond skip (pos 0) (read (bit op 63) b (number b (λ i. cond ov 0 (loaded (take 1024 s) xBase off i)) (b * cond fx j (k / (b / n)))))) (zero-mod (lanesOf b))
+    where
+      b : ℕ
+      b = Vecint.widths op .x
 
-        n : ℕ
-        n = Vecint.narrower (Vecint.widths op)
+      n : ℕ
+      n = Vecint.narrower (Vecint.widths op)
 
-        ov : Bool
-        ov = Vecint.overrides gen op 4 4
+      ov : Bool
+      ov = Vecint.overrides gen op 4 4
 
-        fx : Bool
-        fx = Vecint.broadcasts gen op 6 6
+      fx : Bool
+      fx = Vecint.broadcasts gen op 6 6
 
-        off : ℕ
-        off = bits op 10 18 + cond (Vecint.broadcasts gen op 2 6) 0 (64 * v)
+      off : ℕ
+      off = bits op 10 18 + cond (Vecint.broadcasts gen op 2 6) 0 (64 * v)
 
-        loads : bytes ≡ table (λ i. cond (cond skip true ov) 0 (loaded s xBase off i)) 0 64
-        loads = eb ∙ (λ t. table (λ i. cond (el t) 0 (loaded s xBase (ef t) i)) 0 64)
+  pub y-lanes : getD (sideBy (ySideOf gen op) (yBytesOf gen op s v skip)) k (pos 0) ≡ cond skip (pos 0) (Vecint.yOf gen op (take 1024 s) v k)
+  unfolding Vecint.yOf Vecint.yBytes Vecint.yIndex
+  y-lanes =
+      side-at (eqb b 2) (bit op 26) (yBytesOf gen op s v skip) (fixedY gen op) (laneY gen op) (eqb (Vecint.widths op .x) 1) k in-list
+      ∙ side-lane b (Vecint.widths op .x) n (y-sided op) (bit op 26) skip ov (fixedY gen op) (laneY gen op) k (loaded s yBase off) (loaded (take 1024 s) yBase off) in-side (λ i l. of-xy s yBase off i (omega arith))
+      ∙ ap (λ (j : ℕ). cond skip (pos 0) (read (bit op 26) b (number b (λ i. cond ov 0 (loaded (take 1024 s) yBase off i)) (b * j)))) used
+    where
+      b : ℕ
+      b = Vecint.widths op .y
 
-    pub y-lanes : bytes ≡ table (λ i. cond bl 0 (loaded s yBase from i)) 0 64 → bl ≡ cond skip true (Vecint.overrides gen op 5 5)
-        → from ≡ bits op 0 8 + cond (Vecint.broadcasts gen op 3 7) 0 (64 * v)
-        → wide ≡ eqb (Vecint.widths op .y) 2 → halved ≡ eqb (Vecint.widths op .x) 1 → sign ≡ bit op 26 → fixed ≡ fixedY gen op → lane ≡ laneY gen op
-        → getD xs k (pos 0) ≡ cond skip (pos 0) (Vecint.yOf gen op (take 1024 s) v k)
-    unfolding Vecint.yOf Vecint.yBytes Vecint.yIndex
-    y-lanes eb el ef ew eh es efx e0 =
-        (λ t. getD (ex t) k (pos 0))
-        ∙ (λ t. getD (sideOf (ew t) (es t) (loads t) (efx t) (e0 t) (eh t)) k (pos 0))
-        ∙ side-at (eqb b 2) (bit op 26) (table (λ i. cond (cond skip true ov) 0 (loaded s yBase off i)) 0 64) (fixedY gen op) (laneY gen op) (eqb (Vecint.widths op .x) 1) k in-list
-        ∙ side-lane b (Vecint.widths op .x) n (y-sided op) (bit op 26) skip ov (fixedY gen op) (laneY gen op) k (loaded s yBase off) (loaded (take 1024 s) yBase off) in-side (λ i l. of-xy s yBase off i (omega arith))
-        ∙ ap (λ (j : ℕ). cond skip (pos 0) (read (bit op 26) b (number b (λ i. cond ov 0 (loaded (take 1024 s) yBase off i)) (b * j)))) used
-      where
-        b : ℕ
-        b = Vecint.widths op .y
+      n : ℕ
+      n = Vecint.narrower (Vecint.widths op)
 
-        n : ℕ
-        n = Vecint.narrower (Vecint.widths op)
+      ov : Bool
+      ov = Vecint.overrides gen op 5 5
 
-        ov : Bool
-        ov = Vecint.overrides gen op 5 5
+      off : ℕ
+      off = bits op 0 8 + cond (Vecint.broadcasts gen op 3 7) 0 (64 * v)
 
-        off : ℕ
-        off = bits op 0 8 + cond (Vecint.broadcasts gen op 3 7) 0 (64 * v)
+      used : lane-used (fixedY gen op) (laneY gen op) b n k ≡ Vecint.yIndex gen op k
+      used =
+          unfold Vecint.yIndex Vecint.broadcasts in
+          by-several (Vecint.several gen op) (eqb (Vecint.broadcastMode op) 7) (eqb (Vecint.enableMode op) 1) (Vecint.enableValue op) (lanesOf b) (k / (b / n))
 
-        loads : bytes ≡ table (λ i. cond (cond skip true ov) 0 (loaded s yBase off i)) 0 64
-        loads = eb ∙ (λ t. table (λ i. cond (el t) 0 (loaded s yBase (ef t) i)) 0 64)
-
-        used : lane-used (fixedY gen op) (laneY gen op) b n k ≡ Vecint.yIndex gen op k
-        used =
-            unfold Vecint.yIndex Vecint.broadcasts in
-            by-several (Vecint.several gen op) (eqb (Vecint.broadcastMode op) 7) (eqb (Vecint.enableMode op) 1) (Vecint.enableValue op) (lanesOf b) (k / (b / n))
+-- the terms, from the parts that the code has read
+pub terms-held : (gen op : ℕ) (s : List ℕ) (v : ℕ) (how : Alu) (ts : List ℤ) (xb yb : List ℕ) (x y : SideForm) (n sh : ℕ) → Vecint.reduces op ≡ false
+    → xb ≡ xBytesOf gen op s v (how .skipx) → yb ≡ yBytesOf gen op s v (how .skipy) → x ≡ xSideOf gen op → y ≡ ySideOf gen op → n ≡ vectorLanes op → n ≤ 64
+    → sh ≡ Vecint.shift op → sh < 32 → ts ≡ keptTerms n (how .sums) (how .clamps) (sh % 32) (sideBy x xb) (sideBy y yb) → HoldsTerms gen op s v how ts
+terms-held gen op s v how ts xb yb x y n sh not exb eyb ex ey en few es small et k hk =
+    (λ i. getD (et i) k (pos 0))
+    ∙ kept-at n (how .sums) (how .clamps) (sh % 32) (sideBy x xb) (sideBy y yb) k (subst (λ (m : ℕ). k < m) (sym en) hk) (omega (arith, hk, en))
+    ∙ (λ i. kept 4 (termOf (how .sums) (how .clamps) ((mod-eq-of-lt small ∙ es) i)
+    (((λ j. getD (sideBy (ex j) (exb j)) k (pos 0)) ∙ x-lanes gen op s v (how .skipx) not k hk) i)
+    (((λ j. getD (sideBy (ey j) (eyb j)) k (pos 0)) ∙ y-lanes gen op s v (how .skipy) not k hk) i)))

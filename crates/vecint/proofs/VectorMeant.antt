@@ -29,7 +29,8 @@ use Rattle.vecint.specs.Accumulation.{zBytes, zLanes, accumulated, accum
 use Rattle.vecint.specs.Modes.{aluOf, cleared, aluBy, termBy, outcome}
 use Rattle.vecint.specs.Vectors.{firstRow, vectorLanes, vectorEffect, HoldsTerms}
 use Rattle.vecint.proofs.Bounds.{fits}
-use Rattle.vecint.proofs.Ranges.{outcome-is, x-small, y-small, term-small}
+use Rattle.vecint.proofs.KeptTerms.{kept-is}
+use Rattle.vecint.proofs.Ranges.{outcome-is, x-small, y-small, term-small, term-whole}
 use Rattle.vecint.proofs.Results.{result-is}
 
 -- ---- widths
@@ -57,15 +58,21 @@ narrow gen op not c =
     saturating true e = absurd (true-false (sym e))
     saturating false e = e
 
+-- and their terms are shifted by 15
+fifteen : (gen op : ℕ) → aluBy gen op .clamps ≡ true → Vecint.shift op ≡ 15
+unfolding aluBy Vecint.shift
+fifteen gen op c = pick-true _ _ (saturating (Vecint.forcesZero gen op) c)
+  where
+    saturating : (b : Bool) → cond b cleared (aluOf (Vecint.mode op)) .clamps ≡ true → Vecint.saturates op ≡ true
+    saturating true e = absurd (true-false (sym e))
+    saturating false e = e
+
 -- ---- the vector
 
 pub few-vectors : (gen op v : ℕ) → v < 64 / Vecint.stride gen op → v < 4
 few-vectors gen op v = by-spacing (λ s. v < 64 / s → v < 4) (λ h. omega arith) (λ h. omega arith) (λ h. omega arith) (stride-cases gen op)
 
 module _ (gen op v : ℕ) (s : List ℕ) (size : length s ≡ 5120) (small : Bytes s) (not : Vecint.reduces op ≡ false) where
-  wide : Bool
-  wide = eqb (Vecint.zWidth op) 4
-
   width : zBytes (eqb (Vecint.zWidth op) 4) ≡ Vecint.zWidth op
   width = by-wide (z-width-two-or-four op not)
 
@@ -82,22 +89,43 @@ module _ (gen op v : ℕ) (s : List ℕ) (size : length s ≡ 5120) (small : Byt
       few (inl e) = subst (λ (n : ℕ). lanesOf n ≤ 64) (sym e) (omega arith)
       few (inr e) = subst (λ (n : ℕ). lanesOf n ≤ 64) (sym e) (omega arith)
 
-  x : ℕ → ℤ
-  x k = Vecint.xOf gen op (take 1024 s) v k
-
-  y : ℕ → ℤ
-  y k = Vecint.yOf gen op (take 1024 s) v k
-
   -- what lane k receives
   lane-meant : (ts : List ℤ) → HoldsTerms gen op s v (aluBy gen op) ts → (k : ℕ) → k < vectorLanes op → (z : ℕ) → z < span (zBytes (eqb (Vecint.zWidth op) 4))
-      → accumulated (eqb (Vecint.zWidth op) 4) (aluBy gen op) (signed (zBytes (eqb (Vecint.zWidth op) 4)) z) (getD ts k (pos 0)) ≡ Vecint.result gen op (take 1024 s) v k z
-  unfolding x y
+      → accumulate (eqb (Vecint.zWidth op) 4) (aluBy gen op) ts k z ≡ wrap (span (zBytes (eqb (Vecint.zWidth op) 4))) (Vecint.result gen op (take 1024 s) v k z)
   lane-meant ts held k hk z hz =
-      ap (accumulated (eqb (Vecint.zWidth op) 4) (aluBy gen op) (signed (zBytes (eqb (Vecint.zWidth op) 4)) z)) (held k hk)
-      ∙ outcome-is (eqb (Vecint.zWidth op) 4) (aluBy gen op) (signed (zBytes (eqb (Vecint.zWidth op) 4)) z) (termBy (aluBy gen op) (Vecint.shift op) (x k) (y k))
-      (narrow gen op not) (lane-small (eqb (Vecint.zWidth op) 4) z hz) (term-small (aluBy gen op) (Vecint.shift op) (x k) (y k) (x-small gen op s v k small) (y-small gen op s v k small))
-      ∙ ap (λ (b : ℕ). outcome (aluBy gen op) (signed b z) (termBy (aluBy gen op) (Vecint.shift op) (x k) (y k))) width
-      ∙ sym (result-is gen op (take 1024 s) v k z not)
+      ap (λ (t : ℤ). wrap (span b) (accumulated w how Z t)) (held k hk)
+      ∙ kept-is w how Z T (λ c. term-whole how (Vecint.shift op) (x k) (y k) (fifteen gen op c) hx hy)
+      ∙ ap (wrap (span b))
+      (outcome-is w how Z T (narrow gen op not) (lane-small w z hz) (term-small how (Vecint.shift op) (x k) (y k) hx hy)
+      ∙ ap (λ (n : ℕ). outcome how (signed n z) T) width
+      ∙ sym (result-is gen op (take 1024 s) v k z not))
+    where
+      w : Bool
+      w = eqb (Vecint.zWidth op) 4
+
+      b : ℕ
+      b = zBytes (eqb (Vecint.zWidth op) 4)
+
+      how : Alu
+      how = aluBy gen op
+
+      Z : ℤ
+      Z = signed (zBytes (eqb (Vecint.zWidth op) 4)) z
+
+      x : ℕ → ℤ
+      x k = Vecint.xOf gen op (take 1024 s) v k
+
+      y : ℕ → ℤ
+      y k = Vecint.yOf gen op (take 1024 s) v k
+
+      T : ℤ
+      T = termBy (aluBy gen op) (Vecint.shift op) (Vecint.xOf gen op (take 1024 s) v k) (Vecint.yOf gen op (take 1024 s) v k)
+
+      hx : mag (Vecint.xOf gen op (take 1024 s) v k) < 65536
+      hx = x-small gen op s v k small
+
+      hy : mag (Vecint.yOf gen op (take 1024 s) v k) < 65536
+      hy = y-small gen op s v k small
 
   pub vector-meant : (t : List ℕ) (w : Bool) (base c : ℕ) (on : List Bool) (how : Alu) (ts : List ℤ)
       → w ≡ eqb (Vecint.zWidth op) 4 → base ≡ firstRow gen op v → c ≡ Vecint.rowsEach op → on ≡ table (λ k. Vecint.several gen op || Vecint.masked op k) 0 64
@@ -111,7 +139,7 @@ module _ (gen op v : ℕ) (s : List ℕ) (size : length s ≡ 5120) (small : Byt
       (accumulate (eqb (Vecint.zWidth op) 4) (aluBy gen op) ts)
       (λ k z. wrap (span (zBytes (eqb (Vecint.zWidth op) 4))) (Vecint.result gen op (take 1024 s) v k z))
       (λ k h. getD-table mask false 0 64 k (in-list k h) ∙ ap mask (zero-add k))
-      (λ k h z hz. ap (wrap (span (zBytes (eqb (Vecint.zWidth op) 4)))) (lane-meant ts (subst (λ (a : Alu). HoldsTerms gen op s v a ts) eh held) k (of-vector k h) z hz))
+      (λ k h z hz. lane-meant ts (subst (λ (a : Alu). HoldsTerms gen op s v a ts) eh held) k (of-vector k h) z hz)
       ∙ (λ i. applied (dealt (width i) (firstRow gen op v) (Vecint.rowsEach op) mask (λ k z. wrap (span (width i)) (Vecint.result gen op (take 1024 s) v k z))) s)
     where
       mask : ℕ → Bool

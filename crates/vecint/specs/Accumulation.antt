@@ -1,13 +1,15 @@
 -- What becomes of a term in a lane of Z, in all modes but 4.
 -- Assumes nothing.
-use mathlib.Core.Bool.{Bool, cond}
+use mathlib.Core.Bool.{Bool, false, cond}
 use mathlib.Core.List.{List}
-use Prim.Native.Nat.{ℕ}
+use Prim.Native.Nat.{ℕ, _+_, _*_}
 use lib.IntN.{ℤ, pos, negℤ, _+ℤ_}
 use lib.ListN.{getD}
 use lib.Seq.{sets}
 use Rattle.number.specs.Bytes.{span, byteAt, number, bytesOf}
 use Rattle.number.specs.Integers.{signed, wrap, kept, clampSigned}
+use Rattle.isa.specs.Effect.{Effect}
+use Rattle.state.specs.Rows.{oneRow}
 use Rattle.vecint.specs.declared.Alu.{Alu}
 
 -- bytes of a Z lane, and lanes in a row
@@ -38,3 +40,7 @@ laneStored wide how s at t on =
 -- the number that lane k receives
 abbrev pub accumulate : Bool → Alu → List ℤ → ℕ → ℕ → ℕ
 accumulate wide how terms k z = wrap (span (zBytes wide)) (accumulated wide how (signed (zBytes wide) z) (getD terms k (pos 0)))
+
+-- a row, whose lane l is lane l c + q of the vector
+abbrev pub rowOf : Bool → ℕ → ℕ → ℕ → List ℤ → List Bool → Alu → Effect
+rowOf wide row q c terms on how = oneRow (zBytes wide) row (λ l. getD on (l * c + q) false) (λ l. accumulate wide how terms (l * c + q))

@@ -1,18 +1,19 @@
 -- A step as its vectors, each with the rows that its lanes are dealt to.
 -- Assumes nothing.
 use mathlib.Core.Path.{_≡_}
-use mathlib.Core.Bool.{Bool, cond, not, _||_, _&&_}
+use mathlib.Core.Bool.{Bool, true, cond, _||_}
 use mathlib.Core.List.{List}
 use Prim.Native.Nat.{ℕ, _+_, _*_, _/_, _%_, _<_}
 use lib.Dec.{eqb}
 use lib.IntN.{ℤ, pos}
 use lib.ListN.{take, getD}
 use Rattle.number.specs.Bytes.{span, table}
-use Rattle.number.specs.Integers.{wrap}
-use Rattle.isa.specs.Operand.{bit}
-use Rattle.isa.specs.State.{zBase, lanesOf}
+use Rattle.number.specs.Integers.{wrap, kept}
+use Rattle.isa.specs.Operand.{bits, bit}
+use Rattle.isa.specs.State.{xBase, yBase, zBase, lanesOf, loaded}
 use Rattle.isa.specs.Effect.{Effect}
 use Rattle.isa.specs.Vecint as Vecint
+use Rattle.sides.specs.declared.SideForm.{SideForm}
 use Rattle.reduction.specs.declared.Reduce.{Reduce}
 use Rattle.state.specs.Rows.{dealt}
 use Rattle.vecint.specs.declared.Alu.{Alu}
@@ -44,16 +45,26 @@ fixedY gen op = cond (Vecint.several gen op) (eqb (Vecint.broadcastMode op) 7) (
 abbrev pub laneY : ℕ → ℕ → ℕ
 laneY gen op = cond (Vecint.several gen op) 0 (Vecint.enableValue op)
 
--- a list that has the lanes of X that vector v uses, or 0 where X is left out; the same for Y; and the terms
-abbrev pub HoldsX : ℕ → ℕ → List ℕ → ℕ → Bool → List ℤ → Type 0
-HoldsX gen op s v skip xs = (k : ℕ) → k < vectorLanes op → getD xs k (pos 0) ≡ cond skip (pos 0) (Vecint.xOf gen op (take zBase s) v k)
+-- the bytes of X for vector v, 0 where X is left out, and how its lanes are read; the same for Y
+abbrev pub xBytesOf : ℕ → ℕ → List ℕ → ℕ → Bool → List ℕ
+xBytesOf gen op s v skip =
+    table (λ i. cond (cond skip true (Vecint.overrides gen op 4 4)) 0 (loaded s xBase (bits op 10 18 + cond (Vecint.broadcasts gen op 2 6) 0 (64 * v)) i)) 0 64
 
-abbrev pub HoldsY : ℕ → ℕ → List ℕ → ℕ → Bool → List ℤ → Type 0
-HoldsY gen op s v skip ys = (k : ℕ) → k < vectorLanes op → getD ys k (pos 0) ≡ cond skip (pos 0) (Vecint.yOf gen op (take zBase s) v k)
+abbrev pub yBytesOf : ℕ → ℕ → List ℕ → ℕ → Bool → List ℕ
+yBytesOf gen op s v skip =
+    table (λ i. cond (cond skip true (Vecint.overrides gen op 5 5)) 0 (loaded s yBase (bits op 0 8 + cond (Vecint.broadcasts gen op 3 7) 0 (64 * v)) i)) 0 64
 
+abbrev pub xSideOf : ℕ → ℕ → SideForm
+xSideOf gen op = record { wide = eqb (Vecint.widths op .x) 2; sign = bit op 63; fixed = Vecint.broadcasts gen op 6 6; lane = 0; halved = eqb (Vecint.widths op .y) 1 }
+
+abbrev pub ySideOf : ℕ → ℕ → SideForm
+ySideOf gen op = record { wide = eqb (Vecint.widths op .y) 2; sign = bit op 26; fixed = fixedY gen op; lane = laneY gen op; halved = eqb (Vecint.widths op .x) 1 }
+
+-- a list that has the terms of vector v, each kept in 4 bytes
 abbrev pub HoldsTerms : ℕ → ℕ → List ℕ → ℕ → Alu → List ℤ → Type 0
 HoldsTerms gen op s v how ts =
-    (k : ℕ) → k < vectorLanes op → getD ts k (pos 0) ≡ termBy how (Vecint.shift op) (Vecint.xOf gen op (take zBase s) v k) (Vecint.yOf gen op (take zBase s) v k)
+    (k : ℕ) → k < vectorLanes op
+    → getD ts k (pos 0) ≡ kept 4 (termBy how (Vecint.shift op) (Vecint.xOf gen op (take zBase s) v k) (Vecint.yOf gen op (take zBase s) v k))
 
 -- what mode 4 does by an operand
 abbrev pub reduceBy : ℕ → ℕ → Reduce

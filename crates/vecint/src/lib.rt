@@ -10,8 +10,8 @@ ghost use Rattle.number.specs.Integers.{signed, wrap, kept};
 ghost use Rattle.isa.specs.State.{stateLength};
 ghost use Rattle.isa.specs.Effect.{applied, lanesOn};
 ghost use Rattle.isa.specs.Vecint as Vecint;
-ghost use Rattle.state.specs.Rows.{oneRow, dealt};
-ghost use Rattle.vecint.specs.Accumulation.{zBytes, zLanes, summed, clampedSum, accumulated, laneStored, accumulate};
+ghost use Rattle.state.specs.Rows.{dealt};
+ghost use Rattle.vecint.specs.Accumulation.{zBytes, zLanes, summed, clampedSum, accumulated, laneStored, accumulate, rowOf};
 ghost use Rattle.vecint.specs.Modes.{sumsIn, yAlone, negatesIn, aluBy};
 ghost use Rattle.vecint.specs.Vectors.{fixedY, laneY, HoldsX, HoldsY, HoldsTerms, vecintMask, vectorEffect, reduceBy};
 
@@ -28,10 +28,10 @@ pub struct Alu {
     pub clamps: bool,
 }
 
-fn sum16(z: u16, t: i64, how: Alu) -> u16
+fn sum16(z: u16, t: i32, how: Alu) -> u16
     ensures { λ r. ⌜ r ≡ wrap (span 2) (summed how (signed 2 z) t) ⌝ }
 {
-    let v = number::wrapped16(t);
+    let v = number::wrapped16(t as i64);
     if !how.keeps {
         return v;
     }
@@ -41,10 +41,10 @@ fn sum16(z: u16, t: i64, how: Alu) -> u16
     std::num::wrapping_add_u16(z, v)
 }
 
-fn sum32(z: u32, t: i64, how: Alu) -> u32
+fn sum32(z: u32, t: i32, how: Alu) -> u32
     ensures { λ r. ⌜ r ≡ wrap (span 4) (summed how (signed 4 z) t) ⌝ }
 {
-    let v = number::wrapped32(t);
+    let v = number::wrapped32(t as i64);
     if !how.keeps {
         return v;
     }
@@ -60,17 +60,17 @@ fn signed_by(t: i64, negates: bool) -> i64
     if negates { number::negated(t) } else { t }
 }
 
-fn clamp16(z: u16, t: i64, how: Alu) -> u16
+fn clamp16(z: u16, t: i32, how: Alu) -> u16
     ensures { λ r. ⌜ r ≡ wrap (span 2) (clampedSum how (signed 2 z) t) ⌝ }
 {
     if how.keeps {
-        let v = number::added(number::signed16(z) as i64, signed_by(t, how.negates));
+        let v = number::added(number::signed16(z) as i64, signed_by(t as i64, how.negates));
         return number::wrapped16(number::clamped(-32_768, 32_767, v));
     }
-    number::wrapped16(number::clamped(-32_768, 32_767, t))
+    number::wrapped16(number::clamped(-32_768, 32_767, t as i64))
 }
 
-fn new16(z: u16, t: i64, how: Alu) -> u16
+fn new16(z: u16, t: i32, how: Alu) -> u16
     ensures { λ r. ⌜ r ≡ wrap (span 2) (accumulated false how (signed 2 z) t) ⌝ }
 {
     if how.clamps {
@@ -92,7 +92,7 @@ fn chosen32(on: bool, n: u32, z: u32) -> u32
     if on { n } else { z }
 }
 
-fn lane16(state: &mut [u8], at: usize, t: i64, on: bool, how: Alu)
+fn lane16(state: &mut [u8], at: usize, t: i32, on: bool, how: Alu)
     ensures { λ _. ⌜ now (state .exit) ≡ laneStored false how (now (state .entry)) at t on ⌝ }
 {
     let z = number::get16(state, at);
@@ -100,7 +100,7 @@ fn lane16(state: &mut [u8], at: usize, t: i64, on: bool, how: Alu)
     number::put16(state, at, chosen16(on, n, z));
 }
 
-fn lane32(state: &mut [u8], at: usize, t: i64, on: bool, how: Alu)
+fn lane32(state: &mut [u8], at: usize, t: i32, on: bool, how: Alu)
     ensures { λ _. ⌜ now (state .exit) ≡ laneStored true how (now (state .entry)) at t on ⌝ }
 {
     let z = number::get32(state, at);
@@ -108,57 +108,63 @@ fn lane32(state: &mut [u8], at: usize, t: i64, on: bool, how: Alu)
     number::put32(state, at, chosen32(on, n, z));
 }
 
-// A lane of 32 bits or of 16.
-fn lane(state: &mut [u8], at: usize, wide: bool, t: i64, on: bool, how: Alu)
-    ensures { λ _. ⌜ now (state .exit) ≡ laneStored wide how (now (state .entry)) at t on ⌝ }
+// A row: its lane l takes term l c + q. The row is taken modulo 64, so that the compiler knows that no lane lies past the end.
+fn alu_row16(
+    state: &mut [u8],
+    row: usize,
+    q: usize,
+    c: usize,
+    terms: &[i32; 64],
+    on: &[bool; 64],
+    how: Alu,
+)
+    requires { ⌜ (length (now state) ≡ stateLength) × (row < 64) × (q < c) × (c ≤ 2) ⌝ }
+    ensures { λ _. ⌜ now (state .exit) ≡ applied (rowOf false row q c (now (terms .entry)) (now (on .entry)) how) (now (state .entry)) ⌝ }
 {
-    if wide {
-        lane32(state, at, t, on, how);
-        return;
+    let start = 1024 + row % 64 * 64;
+    for l in 0..32 {
+        let k = l * c + q;
+        lane16(state, start + l * 2, terms[k], on[k], how);
     }
-    lane16(state, at, t, on, how);
 }
 
-fn bytes_of(wide: bool) -> usize
-    ensures { λ r. ⌜ (r ≡ zBytes wide) × (r ≤ 4) ⌝ }
+fn alu_row32(
+    state: &mut [u8],
+    row: usize,
+    q: usize,
+    c: usize,
+    terms: &[i32; 64],
+    on: &[bool; 64],
+    how: Alu,
+)
+    requires { ⌜ (length (now state) ≡ stateLength) × (row < 64) × (q < c) × (c ≤ 4) ⌝ }
+    ensures { λ _. ⌜ now (state .exit) ≡ applied (rowOf true row q c (now (terms .entry)) (now (on .entry)) how) (now (state .entry)) ⌝ }
 {
-    if wide { 4 } else { 2 }
+    let start = 1024 + row % 64 * 64;
+    for l in 0..16 {
+        let k = l * c + q;
+        lane32(state, start + l * 4, terms[k], on[k], how);
+    }
 }
 
-fn lanes_of(wide: bool) -> usize
-    ensures { λ r. ⌜ (r ≡ zLanes wide) × (r ≤ 32) ⌝ }
-{
-    if wide { 16 } else { 32 }
-}
-
-// A row: its lane l takes term l c + q.
 fn alu_row(
     state: &mut [u8],
     row: usize,
     q: usize,
     c: usize,
     wide: bool,
-    terms: &[i64; 64],
+    terms: &[i32; 64],
     on: &[bool; 64],
     how: Alu,
 )
-    requires { ⌜ (length (now state) ≡ stateLength) × (row < 64) × (q < c) × (c ≤ 4) × (zLanes wide * c ≤ 64) ⌝ }
-    ensures { λ _. ⌜ now (state .exit) ≡ applied (oneRow (zBytes wide) row (λ l. getD (now (on .entry)) (l * c + q) false)
-        (λ l. accumulate wide how (now (terms .entry)) (l * c + q))) (now (state .entry)) ⌝ }
+    requires { ⌜ (length (now state) ≡ stateLength) × (row < 64) × (q < c) × (zLanes wide * c ≤ 64) ⌝ }
+    ensures { λ _. ⌜ now (state .exit) ≡ applied (rowOf wide row q c (now (terms .entry)) (now (on .entry)) how) (now (state .entry)) ⌝ }
 {
-    let bytes = bytes_of(wide);
-    let lanes = lanes_of(wide);
-    for l in 0..lanes {
-        let k = l * c + q;
-        lane(
-            state,
-            1024 + (row * 64 + l * bytes),
-            wide,
-            terms[k],
-            on[k],
-            how,
-        );
+    if wide {
+        alu_row32(state, row, q, c, terms, on, how);
+        return;
     }
+    alu_row16(state, row, q, c, terms, on, how);
 }
 
 // The c rows that the lanes of a vector are dealt to, from a row on.
@@ -167,11 +173,11 @@ fn alu_rows(
     base: usize,
     c: usize,
     wide: bool,
-    terms: &[i64; 64],
+    terms: &[i32; 64],
     on: &[bool; 64],
     how: Alu,
 )
-    requires { ⌜ (length (now state) ≡ stateLength) × (base + c ≤ 64) × (c ≤ 4) × (zLanes wide * c ≤ 64) ⌝ }
+    requires { ⌜ (length (now state) ≡ stateLength) × (base + c ≤ 64) × (zLanes wide * c ≤ 64) ⌝ }
     ensures { λ _. ⌜ now (state .exit) ≡ applied (dealt (zBytes wide) base c (λ k. getD (now (on .entry)) k false)
         (accumulate wide how (now (terms .entry)))) (now (state .entry)) ⌝ }
 {
@@ -180,257 +186,3 @@ fn alu_rows(
     }
 }
 
-// ---- modes
-
-fn sums_in(mode: u64) -> bool
-    ensures { λ r. ⌜ r ≡ sumsIn mode ⌝ }
-{
-    if mode == 0 {
-        return false;
-    }
-    if mode == 1 {
-        return false;
-    }
-    if mode == 5 {
-        return false;
-    }
-    if mode == 6 {
-        return false;
-    }
-    mode != 10
-}
-
-fn y_alone(mode: u64) -> bool
-    ensures { λ r. ⌜ r ≡ yAlone mode ⌝ }
-{
-    if mode == 2 {
-        return false;
-    }
-    if mode == 3 {
-        return false;
-    }
-    if mode == 11 {
-        return false;
-    }
-    sums_in(mode)
-}
-
-fn negates_in(mode: u64) -> bool
-    ensures { λ r. ⌜ r ≡ negatesIn mode ⌝ }
-{
-    if mode == 1 {
-        return true;
-    }
-    if mode == 3 {
-        return true;
-    }
-    mode == 6
-}
-
-// What an operand's mode does, and nothing but 0 where its output is forced to 0.
-fn alu_by(generation: u64, op: u64) -> Alu
-    ensures { λ r. ⌜ r ≡ aluBy generation op ⌝ }
-{
-    if operand::overrides(generation, op, 3, 1) {
-        return Alu {
-            sums: false,
-            skipx: true,
-            skipy: true,
-            negates: false,
-            keeps: false,
-            clamps: false,
-        };
-    }
-    let mode = operand::alu_mode(op);
-    Alu {
-        sums: sums_in(mode),
-        skipx: y_alone(mode),
-        skipy: mode == 11,
-        negates: negates_in(mode),
-        keeps: mode != 10,
-        clamps: operand::saturates(op),
-    }
-}
-
-// ---- the sides of a vector
-
-// Whether a side is read as 0: left out by the mode, or by an override.
-fn blank(skip: bool, generation: u64, op: u64, value: u64, broadcast: u64) -> bool
-    ensures { λ r. ⌜ r ≡ cond skip true (Vecint.overrides generation op value broadcast) ⌝ }
-{
-    if skip {
-        return true;
-    }
-    operand::overrides(generation, op, value, broadcast)
-}
-
-// Where the 64 bytes of vector v begin: they advance by 64, but in broadcast modes a and b.
-fn offset(generation: u64, op: u64, v: usize, from: u64, a: u64, b: u64) -> u64
-    requires { ⌜ (v < 4) × (from < 512) ⌝ }
-    ensures { λ r. ⌜ r ≡ from + cond (Vecint.broadcasts generation op a b) 0 (64 * v) ⌝ }
-{
-    if operand::broadcasts(generation, op, a, b) {
-        return from;
-    }
-    from + 64 * (v as u64)
-}
-
-fn x_side(state: &[u8], generation: u64, op: u64, v: usize, skip: bool) -> [i32; 64]
-    requires { ⌜ (v < 4) × (Vecint.reduces op ≡ false) ⌝ }
-    ensures { λ r. ⌜ HoldsX generation op (now (state .entry)) v skip r ⌝ }
-{
-    let from = offset(generation, op, v, operand::field(op, 10, 18), 2, 6);
-    let bytes = state::load_unless(blank(skip, generation, op, 4, 4), state, false, from);
-    sides::side(
-        &bytes,
-        operand::x_width(op) == 2,
-        operand::flag(op, 63),
-        operand::broadcasts(generation, op, 6, 6),
-        0,
-        operand::y_width(op) == 1,
-    )
-}
-
-// A lane of Y for every lane: by broadcast mode 7 its lane 0, by enable mode 1 the lane that the value names.
-fn fixed_y(generation: u64, op: u64) -> bool
-    ensures { λ r. ⌜ r ≡ fixedY generation op ⌝ }
-{
-    if operand::several(generation, op) {
-        return operand::field(op, 32, 34) == 7;
-    }
-    operand::field(op, 38, 40) == 1
-}
-
-fn lane_y(generation: u64, op: u64) -> usize
-    ensures { λ r. ⌜ r ≡ laneY generation op ⌝ }
-{
-    if operand::several(generation, op) {
-        return 0;
-    }
-    operand::field(op, 32, 37) as usize
-}
-
-fn y_side(state: &[u8], generation: u64, op: u64, v: usize, skip: bool) -> [i32; 64]
-    requires { ⌜ (v < 4) × (Vecint.reduces op ≡ false) ⌝ }
-    ensures { λ r. ⌜ HoldsY generation op (now (state .entry)) v skip r ⌝ }
-{
-    let from = offset(generation, op, v, operand::field(op, 0, 8), 3, 7);
-    let bytes = state::load_unless(blank(skip, generation, op, 5, 5), state, true, from);
-    sides::side(
-        &bytes,
-        operand::y_width(op) == 2,
-        operand::flag(op, 26),
-        fixed_y(generation, op),
-        lane_y(generation, op),
-        operand::x_width(op) == 1,
-    )
-}
-
-// ---- vectors
-
-fn vector_terms(state: &[u8], generation: u64, op: u64, v: usize, how: Alu) -> [i64; 64]
-    requires { ⌜ (v < 4) × (Vecint.reduces op ≡ false) ⌝ }
-    ensures { λ r. ⌜ HoldsTerms generation op (now (state .entry)) v how r ⌝ }
-{
-    let xs = x_side(state, generation, op, v, how.skipx);
-    let ys = y_side(state, generation, op, v, how.skipy);
-    sides::terms(
-        operand::vector_lanes(op),
-        how.sums,
-        how.clamps,
-        operand::vecint_shift(op),
-        &xs,
-        &ys,
-    )
-}
-
-// Vector v of a step in any mode but 4.
-fn alu_vector(state: &mut [u8], generation: u64, op: u64, v: usize, on: &[bool; 64])
-    requires { ⌜ (length (now state) ≡ stateLength) × (v < 64 / Vecint.stride generation op) × (Vecint.reduces op ≡ false) × (now on ≡ vecintMask generation op) ⌝ }
-    ensures { λ _. ⌜ now (state .exit) ≡ applied (vectorEffect generation op v (now (state .entry))) (now (state .entry)) ⌝ }
-{
-    let how = alu_by(generation, op);
-    let terms = vector_terms(state, generation, op, v, how);
-    let wide = operand::z_width(op) == 4;
-    alu_rows(
-        state,
-        operand::first_row(generation, op, v),
-        operand::rows_each(op),
-        wide,
-        &terms,
-        on,
-        how,
-    );
-}
-
-// What mode 4 does by an operand.
-fn reduce_by(generation: u64, op: u64) -> reduction::Reduce
-    ensures { λ r. ⌜ r ≡ reduceBy generation op ⌝ }
-{
-    reduction::Reduce {
-        clears: operand::overrides(generation, op, 3, 1),
-        sign: operand::flag(op, 63),
-        rounds: operand::flag(op, 29),
-        shift: operand::vecint_shift(op),
-        clamps: operand::flag(op, 30),
-        below: operand::flag(op, 26),
-        width: operand::saturation_width(op),
-    }
-}
-
-// Vector v of a step in mode 4: a row of Z.
-fn reduce_vector(state: &mut [u8], generation: u64, op: u64, v: usize, on: &[bool; 64])
-    requires { ⌜ (length (now state) ≡ stateLength) × (v < 64 / Vecint.stride generation op) × (Vecint.reduces op ≡ true) × (now on ≡ vecintMask generation op) ⌝ }
-    ensures { λ _. ⌜ now (state .exit) ≡ applied (vectorEffect generation op v (now (state .entry))) (now (state .entry)) ⌝ }
-{
-    let how = reduce_by(generation, op);
-    reduction::reduce_row(
-        state,
-        operand::first_row(generation, op, v),
-        operand::z_width(op),
-        on,
-        how,
-    );
-}
-
-fn vector(state: &mut [u8], generation: u64, op: u64, v: usize, on: &[bool; 64])
-    requires { ⌜ (length (now state) ≡ stateLength) × (v < 64 / Vecint.stride generation op) × (now on ≡ vecintMask generation op) ⌝ }
-    ensures { λ _. ⌜ now (state .exit) ≡ applied (vectorEffect generation op v (now (state .entry))) (now (state .entry)) ⌝ }
-{
-    if operand::reduces(op) {
-        reduce_vector(state, generation, op, v, on);
-        return;
-    }
-    alu_vector(state, generation, op, v, on);
-}
-
-fn each_vector(state: &mut [u8], generation: u64, op: u64, on: &[bool; 64])
-    requires { ⌜ (length (now state) ≡ stateLength) × (now on ≡ vecintMask generation op) ⌝ }
-    ensures { λ _. ⌜ now (state .exit) ≡ applied (Vecint.vecint generation op) (now (state .entry)) ⌝ }
-{
-    let vectors = operand::vectors(generation, op);
-    for v in 0..vectors {
-        vector(state, generation, op, v, on);
-    }
-}
-
-fn lanes_enabled(generation: u64, op: u64, on: &[bool; 64]) -> u64
-    requires { ⌜ now on ≡ vecintMask generation op ⌝ }
-    ensures { λ r. ⌜ r ≡ lanesOn (Vecint.vecint generation op) ⌝ }
-{
-    let n = operand::count_first(on, operand::vector_lanes(op));
-    operand::vectors(generation, op) as u64 * n
-}
-
-// vecint on a state of 5,120 bytes, and the count of enabled lanes; a state of another length stays as it is.
-pub fn step(state: &mut [u8], generation: u64, op: u64) -> u64
-    ensures { λ r. ⌜ (now (state .exit) ≡ cond (eqb (length (now (state .entry))) stateLength) (applied (Vecint.vecint generation op) (now (state .entry))) (now (state .entry)))
-        × (r ≡ cond (eqb (length (now (state .entry))) stateLength) (lanesOn (Vecint.vecint generation op)) 0) ⌝ }
-{
-    if state.len() != 5120 {
-        return 0;
-    }
-    let on = operand::vecint_mask(generation, op);
-    each_vector(state, generation, op, &on);
-    lanes_enabled(generation, op, &on)
-}

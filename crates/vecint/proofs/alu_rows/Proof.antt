@@ -30,7 +30,7 @@ add-alu-row c = search needs
 
 -- src/lib.rt:179:9
 alu-row-requires : tie.Need-alu-row-requires Inv-loop μ-loop
-alu-row-requires c κs = (c .before .before .loop .inv .1 .size, omega arith, c .before .loop-test .taken, c .before .before .before .before .pre .2, c .before .before .before .before .pre .3)
+alu-row-requires c κs = (c .before .before .loop .inv .1 .size, omega arith, c .before .loop-test .taken, c .before .before .before .before .pre .2)
 
 -- src/lib.rt:178:9
 add-q : tie.Need-add-q Inv-loop μ-loop

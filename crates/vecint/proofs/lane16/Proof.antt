@@ -1,11 +1,12 @@
 use mathlib.Core.Path.{refl, sym, ap, ap₂, _∙_}
 use native.Mathlib.Omega.{arith}
-use mir.Facts.{toZ-ofZ}
-use mir.Syntax.{w16, w64}
+use mir.Facts.{toZ-ofZ, sfits-widen}
+use mir.Syntax.{w16, w32, w64}
 use borrow.Author.Needs.{sfits-of}
 use lib.IntN.{ℤ, pos, negsuc, negℤ, _+ℤ_}
 use Rattle.number.specs.Bytes.{span, byteAt, number, bytesOf}
 use Rattle.number.specs.Integers.{signed, wrap, kept, clamp}
+use Rattle.number.proofs.Range.{widened}
 use Rattle.number.proofs.Tests.{pick-true, pick-false}
 use mathlib.Core.Bool.{cond, true, false}
 use Prim.Native.Nat.{ℕ}

@@ -1,11 +1,12 @@
 use mathlib.Core.Path.{refl, sym, ap, ap₂, _∙_}
 use native.Mathlib.Omega.{arith}
-use mir.Facts.{toZ-ofZ}
-use mir.Syntax.{w16, w64}
+use mir.Facts.{toZ-ofZ, sfits-widen}
+use mir.Syntax.{w16, w32, w64}
 use borrow.Author.Needs.{sfits-of}
 use lib.IntN.{ℤ, pos, negsuc, negℤ, _+ℤ_}
 use Rattle.number.specs.Bytes.{span, byteAt, number, bytesOf}
 use Rattle.number.specs.Integers.{signed, wrap, kept, clamp}
+use Rattle.number.proofs.Range.{widened}
 use Rattle.number.proofs.Tests.{pick-true, pick-false}
 use Rattle.vecint.proofs.Lanes.{in-place, taken-from, added-to}
 use borrow.Author.Needs.{needs}
@@ -17,13 +18,17 @@ use Rattle.number.proofs.wrapped32.Reads as wrapped32-reads
 use Rattle.std.proofs.num.wrapping_add_u32.Reads as wrapping-add-u32-reads
 use Rattle.std.proofs.num.wrapping_sub_u32.Reads as wrapping-sub-u32-reads
 
+-- src/lib.rt:47:31
+cast-wrapped32 : tie.Need-cast-wrapped32
+cast-wrapped32 c = rw (toZ-ofZ {w = w32} (c .fits .t)) (sfits-widen {w = w32} {w′ = w64} tt (c .fits .t))
+
 -- src/lib.rt:47:9
 wrapped32-requires : tie.Need-wrapped32-requires
 wrapped32-requires c κs = search needs
 
 -- src/lib.rt:49:9
 returns : tie.Need-returns
-returns c = in-place (c .before .before .before .args .how) 4 (c .before .before .before .args .z) (c .before .before .before .args .t) 0 (c .before .before .wrapped32 .result) (c .before .before .wrapped32 .ensures ∙ ap (wrap (span 4)) (toZ-ofZ (c .before .before .before .fits .t))) (c .if1 .taken)
+returns c = in-place (c .before .before .before .args .how) 4 (c .before .before .before .args .z) (c .before .before .before .args .t) 0 (c .before .before .wrapped32 .result) (c .before .before .wrapped32 .ensures ∙ ap (wrap (span 4)) (widened w32 w64 (c .before .before .before .args .t) tt (c .before .before .before .fits .t))) (c .if1 .taken)
 
 -- src/lib.rt:52:9
 wrapping-sub-u32-requires : tie.Need-wrapping-sub-u32-requires
@@ -31,7 +36,7 @@ wrapping-sub-u32-requires c κs = search needs
 
 -- src/lib.rt:52:9
 returns-2 : tie.Need-returns-2
-returns-2 c = taken-from (c .before .before .before .before .before .args .how) 4 (c .before .before .before .before .before .args .z) (c .before .before .before .before .before .args .t) (c .wrapping-sub-u32 .result) (c .before .before .before .before .wrapped32 .result) (c .before .before .before .before .wrapped32 .ensures ∙ ap (wrap (span 4)) (toZ-ofZ (c .before .before .before .before .before .fits .t))) (c .before .before .if1 .left) (c .before .if2 .taken) (omega arith) (c .wrapping-sub-u32 .ensures)
+returns-2 c = taken-from (c .before .before .before .before .before .args .how) 4 (c .before .before .before .before .before .args .z) (c .before .before .before .before .before .args .t) (c .wrapping-sub-u32 .result) (c .before .before .before .before .wrapped32 .result) (c .before .before .before .before .wrapped32 .ensures ∙ ap (wrap (span 4)) (widened w32 w64 (c .before .before .before .before .before .args .t) tt (c .before .before .before .before .before .fits .t))) (c .before .before .if1 .left) (c .before .if2 .taken) (omega arith) (c .wrapping-sub-u32 .ensures)
 
 -- src/lib.rt:54:5
 wrapping-add-u32-requires : tie.Need-wrapping-add-u32-requires
@@ -39,12 +44,13 @@ wrapping-add-u32-requires c κs = search needs
 
 -- src/lib.rt:44:1
 returns-3 : tie.Need-returns-3
-returns-3 c = added-to (c .before .before .before .before .before .args .how) 4 (c .before .before .before .before .before .args .z) (c .before .before .before .before .before .args .t) (c .wrapping-add-u32 .result) (c .before .before .before .before .wrapped32 .result) (c .before .before .before .before .wrapped32 .ensures ∙ ap (wrap (span 4)) (toZ-ofZ (c .before .before .before .before .before .fits .t))) (c .before .before .if1 .left) (c .before .if2 .left) (c .wrapping-add-u32 .ensures)
+returns-3 c = added-to (c .before .before .before .before .before .args .how) 4 (c .before .before .before .before .before .args .z) (c .before .before .before .before .before .args .t) (c .wrapping-add-u32 .result) (c .before .before .before .before .wrapped32 .result) (c .before .before .before .before .wrapped32 .ensures ∙ ap (wrap (span 4)) (widened w32 w64 (c .before .before .before .before .before .args .t) tt (c .before .before .before .before .before .fits .t))) (c .before .before .if1 .left) (c .before .if2 .left) (c .wrapping-add-u32 .ensures)
 
 pub sum32-spec : {M : Type 1} → statement M
 sum32-spec =
     tie.close
     (tie.spec
+    cast-wrapped32
     wrapped32-requires
     returns
     wrapping-sub-u32-requires

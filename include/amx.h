@@ -1,0 +1,30 @@
+// The AMX integer unit: libamx.a, for x86-64. Every function takes every argument, keeps nothing and calls back to nothing.
+#ifndef AMX_H
+#define AMX_H
+#include <stdint.h>
+
+#ifdef __cplusplus
+extern "C" {
+#endif
+
+// The state's length in bytes: X at 0 (512 bytes), Y at 512 (512 bytes), Z at 1,024 (64 rows of 64 bytes). Lanes are little-endian.
+#define AMX_STATE_LENGTH 5120
+
+// Instructions: 14 is mac16, 18 is vecint. Generations: 1 is M1, 2 is M2.
+
+// One step on a lent state. The bytes are the caller's: they are read and written during the call only, and no other call may use them
+// meanwhile. `state` points to `length` bytes; it may be any pointer that is not null where `length` is 0. A length other than 5,120 is
+// refused 1. Answers the number of Z lanes enabled (done), or 65,536 + the reason of a no-op, or 131,072 + the number of a refusal;
+// a no-op and a refusal change no byte.
+uint64_t amx_step(uint8_t *state, uint64_t length, uint64_t instruction, uint64_t generation, uint64_t operand);
+
+// 0 where the step would be done on a state of 5,120 bytes, or the step's own number of a no-op or a refusal.
+uint64_t amx_normal_answer(uint64_t instruction, uint64_t generation, uint64_t operand);
+
+// The normal operand: the operand with its ignored bits cleared. The operand as given where the step would not be done.
+uint64_t amx_normal_operand(uint64_t instruction, uint64_t generation, uint64_t operand);
+
+#ifdef __cplusplus
+}
+#endif
+#endif
