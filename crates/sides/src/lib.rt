@@ -202,3 +202,195 @@ pub fn terms(
     }
     out
 }
+
+// ---- what 32 bits keep of the terms: with what rounding adds, a sum and a product fit an i32, and a product of two unsigned numbers a u32
+
+fn rounding32(rounds: bool) -> i32
+    ensures { λ r. ⌜ (r ≡ cond rounds (pos 16384) (pos 0)) × (mag r ≤ 16384) ⌝ }
+{
+    if rounds { 16_384i32 } else { 0 }
+}
+
+fn shifted32(v: i32, s: u32) -> i32
+    ensures { λ r. ⌜ r ≡ v ≫ (s % 32) ⌝ }
+{
+    v >> (s % 32)
+}
+
+// No more than 32768 times 65535.
+fn moved(rounds: bool, s: u32, v: i32) -> i32
+    requires { ⌜ mag v ≤ 2147450880 ⌝ }
+    ensures { λ r. ⌜ r ≡ (v +ℤ cond rounds (pos 16384) (pos 0)) ≫ (s % 32) ⌝ }
+{
+    shifted32(v + rounding32(rounds), s)
+}
+
+fn signed_product(x: i16, y: i16) -> i32
+    ensures { λ r. ⌜ (r ≡ x *ℤ y) × (mag r ≤ 2147450880) ⌝ }
+{
+    x as i32 * y as i32
+}
+
+fn mixed_product(x: i16, y: u16) -> i32
+    ensures { λ r. ⌜ (r ≡ x *ℤ pos y) × (mag r ≤ 2147450880) ⌝ }
+{
+    x as i32 * y as i32
+}
+
+fn lane32(sign: bool, n: u16) -> i32
+    ensures { λ r. ⌜ (r ≡ read sign 2 n) × (mag r < 65536) ⌝ }
+{
+    number::read16(sign, n)
+}
+
+fn lane_sum(x: i32, y: i32) -> i32
+    requires { ⌜ (mag x < 65536) × (mag y < 65536) ⌝ }
+    ensures { λ r. ⌜ (r ≡ x +ℤ y) × (mag r ≤ 2147450880) ⌝ }
+{
+    x + y
+}
+
+fn sum_term(rounds: bool, s: u32, xsigned: bool, x: u16, ysigned: bool, y: u16) -> i32
+    ensures { λ r. ⌜ r ≡ kept 4 (termOf true rounds (s % 32) (read xsigned 2 x) (read ysigned 2 y)) ⌝ }
+{
+    moved(rounds, s, lane_sum(lane32(xsigned, x), lane32(ysigned, y)))
+}
+
+fn signed_term(rounds: bool, s: u32, x: u16, y: u16) -> i32
+    ensures { λ r. ⌜ r ≡ kept 4 (termOf false rounds (s % 32) (signed 2 x) (signed 2 y)) ⌝ }
+{
+    moved(
+        rounds,
+        s,
+        signed_product(number::signed16(x), number::signed16(y)),
+    )
+}
+
+fn mixed_term(rounds: bool, s: u32, x: u16, y: u16) -> i32
+    ensures { λ r. ⌜ r ≡ kept 4 (termOf false rounds (s % 32) (signed 2 x) (pos y)) ⌝ }
+{
+    moved(rounds, s, mixed_product(number::signed16(x), y))
+}
+
+fn unsigned_rounding(rounds: bool) -> u32
+    ensures { λ r. ⌜ (r ≡ cond rounds 16384 0) × (r ≤ 16384) ⌝ }
+{
+    if rounds { 16_384u32 } else { 0 }
+}
+
+fn unsigned_product(x: u16, y: u16) -> u32
+    ensures { λ r. ⌜ (r ≡ x * y) × (r ≤ 4294836225) ⌝ }
+{
+    x as u32 * y as u32
+}
+
+fn unsigned_moved(rounds: bool, s: u32, v: u32) -> u32
+    requires { ⌜ v ≤ 4294836225 ⌝ }
+    ensures { λ r. ⌜ r ≡ (v + cond rounds 16384 0) / 2 ^ (s % 32) ⌝ }
+{
+    (v + unsigned_rounding(rounds)) >> (s % 32)
+}
+
+fn unsigned_term(rounds: bool, s: u32, x: u16, y: u16) -> i32
+    ensures { λ r. ⌜ r ≡ kept 4 (termOf false rounds (s % 32) (pos x) (pos y)) ⌝ }
+{
+    number::signed32(unsigned_moved(rounds, s, unsigned_product(x, y)))
+}
+
+// ---- a loop for each kind, whose body the compiler does several lanes at a time
+
+fn sums(
+    n: usize,
+    rounds: bool,
+    s: u32,
+    xs: &[u16; 64],
+    xsigned: bool,
+    ys: &[u16; 64],
+    ysigned: bool,
+) -> [i32; 64]
+    ensures { λ r. ⌜ r ≡ keptTerms n true rounds (s % 32) (valuesOf xsigned (now (xs .entry))) (valuesOf ysigned (now (ys .entry))) ⌝ }
+{
+    let mut out = [0i32; 64];
+    let m = at_most_64(n);
+    for i in 0..m {
+        out[i] = sum_term(rounds, s, xsigned, xs[i], ysigned, ys[i]);
+    }
+    out
+}
+
+fn signed_products(n: usize, rounds: bool, s: u32, xs: &[u16; 64], ys: &[u16; 64]) -> [i32; 64]
+    ensures { λ r. ⌜ r ≡ keptTerms n false rounds (s % 32) (valuesOf true (now (xs .entry))) (valuesOf true (now (ys .entry))) ⌝ }
+{
+    let mut out = [0i32; 64];
+    let m = at_most_64(n);
+    for i in 0..m {
+        out[i] = signed_term(rounds, s, xs[i], ys[i]);
+    }
+    out
+}
+
+fn mixed_products(n: usize, rounds: bool, s: u32, xs: &[u16; 64], ys: &[u16; 64]) -> [i32; 64]
+    ensures { λ r. ⌜ r ≡ keptTerms n false rounds (s % 32) (valuesOf true (now (xs .entry))) (valuesOf false (now (ys .entry))) ⌝ }
+{
+    let mut out = [0i32; 64];
+    let m = at_most_64(n);
+    for i in 0..m {
+        out[i] = mixed_term(rounds, s, xs[i], ys[i]);
+    }
+    out
+}
+
+fn unsigned_products(n: usize, rounds: bool, s: u32, xs: &[u16; 64], ys: &[u16; 64]) -> [i32; 64]
+    ensures { λ r. ⌜ r ≡ keptTerms n false rounds (s % 32) (valuesOf false (now (xs .entry))) (valuesOf false (now (ys .entry))) ⌝ }
+{
+    let mut out = [0i32; 64];
+    let m = at_most_64(n);
+    for i in 0..m {
+        out[i] = unsigned_term(rounds, s, xs[i], ys[i]);
+    }
+    out
+}
+
+fn products(
+    n: usize,
+    rounds: bool,
+    s: u32,
+    xs: &[u16; 64],
+    xsigned: bool,
+    ys: &[u16; 64],
+    ysigned: bool,
+) -> [i32; 64]
+    ensures { λ r. ⌜ r ≡ keptTerms n false rounds (s % 32) (valuesOf xsigned (now (xs .entry))) (valuesOf ysigned (now (ys .entry))) ⌝ }
+{
+    if xsigned {
+        if ysigned {
+            return signed_products(n, rounds, s, xs, ys);
+        }
+        return mixed_products(n, rounds, s, xs, ys);
+    }
+    if ysigned {
+        return mixed_products(n, rounds, s, ys, xs);
+    }
+    unsigned_products(n, rounds, s, xs, ys)
+}
+
+// What 32 bits keep of the terms of the first n lanes of two sides, shifted by s modulo 32; the others are 0.
+pub fn kept_terms(
+    xbytes: &[u8; 64],
+    x: SideForm,
+    ybytes: &[u8; 64],
+    y: SideForm,
+    n: usize,
+    plus: bool,
+    rounds: bool,
+    s: u32,
+) -> [i32; 64]
+    ensures { λ r. ⌜ r ≡ keptTerms n plus rounds (s % 32) (sideBy x (now (xbytes .entry))) (sideBy y (now (ybytes .entry))) ⌝ }
+{
+    let xs = side16(xbytes, x);
+    let ys = side16(ybytes, y);
+    if plus {
+        return sums(n, rounds, s, &xs, signed_by(x), &ys, signed_by(y));
+    }
+    products(n, rounds, s, &xs, signed_by(x), &ys, signed_by(y))
+}
