@@ -59,14 +59,14 @@ termAt n plus rounds s xs ys k = cond (ltb k n) (termOf plus rounds s (getD xs k
 
 -- as many as the loop makes
 module _ (n m : ℕ) (many : m ≡ cond (ltb n 64) n 64) where
-  within : (k : ℕ) → k < m → k < n
+  pub within : (k : ℕ) → k < m → k < n
   within k h =
       ⊎-elim
       (λ less. omega (arith, many ∙ pick-true _ _ (lt-ltb n 64 less)))
       (λ more. omega (arith, many ∙ pick-false _ _ (le-ltb n 64 more)))
       (lt-or-le n 64)
 
-  beyond : (k : ℕ) → m ≤ k → k < 64 → n ≤ k
+  pub beyond : (k : ℕ) → m ≤ k → k < 64 → n ≤ k
   beyond k h l =
       ⊎-elim
       (λ less. omega (arith, many ∙ pick-true _ _ (lt-ltb n 64 less)))

@@ -1,82 +1,139 @@
 -- Lanes read from bytes, and a side by the branches of the code.
 -- Assumes nothing.
 use mathlib.Core.Path.{_≡_, refl, sym, ap, _∙_}
-use mathlib.Core.Bool.{Bool, true, false}
+use mathlib.Core.Bool.{Bool, true, false, cond}
 use mathlib.Core.List.{List}
-use Prim.Native.Nat.{ℕ, _+_, _*_, _/_, _%_, _≤_, _<_}
+use mathlib.Core.Logic.{⊎-elim}
+use Prim.Native.Nat.{ℕ, suc, _+_, _-_, _*_, _/_, _%_, _≤_, _<_}
 use native.Mathlib.Nat.{zero-add}
 use native.Mathlib.Omega.{arith}
-use lib.IntN.{ℤ, pos}
-use lib.ListN.{length, getD, set, length-set, replicate, length-replicate, getD-replicate}
-use Rattle.number.specs.Bytes.{byteAt, number, table}
-use Rattle.number.specs.Integers.{read}
+use borrow.Author.Tests.{le-ltb}
+use lib.IntN.{ℤ, negsuc}
+use lib.ListN.{length, getD, set, length-set, replicate, getD-replicate}
+use lib.Seq.{getD-set-same, getD-set-other}
+use Rattle.number.specs.Bytes.{span, byteAt, number, table}
+use Rattle.number.specs.Integers.{signed, read}
 use Rattle.number.proofs.Bytes.{getD-table, table-same}
+use Rattle.number.proofs.Range.{sub-lt, signed-low}
 use Rattle.number.proofs.Slice.{one-byte, two-bytes, number-past}
-use Rattle.number.proofs.Fill.{Filled, fill-more, fill-all}
-use Rattle.sides.specs.Sides.{laneOf, laneBytes, indexOf, sideOf}
+use Rattle.number.proofs.Fill.{Filled, fill-more}
+use Rattle.number.proofs.Tests.{lt-or-le, pick-true, pick-false}
+use Rattle.sides.specs.Sides.{laneOf, laneBytes, indexOf, sideOf, pairOf, valuesOf}
 
 -- ---- a lane
 
-read-none : (sign : Bool) → read sign 2 0 ≡ pos 0
-read-none true = refl
-read-none false = refl
+signed-high : (b n : ℕ) → n < span b → span b ≤ 2 * n → signed b n ≡ negsuc (span b - suc n)
+signed-high b n h l = pick-false _ _ (le-ltb (2 * n) (span b) l) ∙ sub-lt n (span b) h
+
+-- a byte in 16 bits
+module _ (sign : Bool) (n : ℕ) (byte : n < 256) where
+  pub sign-extended : (r : ℕ) → r < 65536 → sign ≡ true → (r + 128) % 65536 ≡ (n + 128) % 256 → signed 2 r ≡ read sign 1 n
+  sign-extended r h t e =
+      ⊎-elim
+      (λ less.
+      let same : r ≡ n = omega (arith, e) in
+      ap (signed 2) same ∙ signed-low 2 n (omega arith) ∙ sym (signed-low 1 n (omega arith)))
+      (λ more.
+      let same : 65536 - suc r ≡ 256 - suc n = omega (arith, e) in
+      signed-high 2 r h (omega (arith, e)) ∙ ap negsuc same ∙ sym (signed-high 1 n byte (omega arith)))
+      (lt-or-le n 128)
+      ∙ sym (pick-true _ _ t)
+
+  pub zero-extended : sign ≡ false → signed 2 n ≡ read sign 1 n
+  zero-extended t = signed-low 2 n (omega arith) ∙ sym (pick-false _ _ t)
 
 module _ (sign : Bool) (bytes : List ℕ) where
-  pub lane-1 : (j : ℕ) → read sign 1 (byteAt bytes j) ≡ laneOf sign 1 bytes j
+  pub lane-byte : (j r : ℕ) → signed 2 r ≡ read sign 1 (byteAt bytes j) → signed 2 r ≡ laneOf sign 1 bytes j
   unfolding laneOf
-  lane-1 j =
+  lane-byte j r e =
       let same : j ≡ 1 * j = omega arith in
-      ap (read sign 1) (one-byte (byteAt bytes) j ∙ ap (number 1 (byteAt bytes)) same)
+      e ∙ ap (read sign 1) (one-byte (byteAt bytes) j ∙ ap (number 1 (byteAt bytes)) same)
 
-  pub lane-2 : (j n : ℕ) → n ≡ byteAt bytes (2 * j) + 256 * byteAt bytes (2 * j + 1) → read sign 2 n ≡ laneOf sign 2 bytes j
-  unfolding laneOf
-  lane-2 j n e = ap (read sign 2) (e ∙ two-bytes (byteAt bytes) (2 * j) _ _ refl refl)
+  pub lane-pair : (j r : ℕ) → r ≡ pairOf bytes j → read sign 2 r ≡ laneOf sign 2 bytes j
+  unfolding laneOf pairOf
+  lane-pair j r e = ap (read sign 2) e
+
+module _ (bytes : List ℕ) where
+  pub pair-is : (j r : ℕ) → r ≡ byteAt bytes (2 * j) + 256 * byteAt bytes (2 * j + 1) → r ≡ pairOf bytes j
+  unfolding pairOf
+  pair-is j r e = e ∙ two-bytes (byteAt bytes) (2 * j) _ _ refl refl
 
   -- past the bytes
-  pub lane-past : length bytes ≡ 64 → (j : ℕ) → 32 ≤ j → laneOf sign 2 bytes j ≡ pos 0
-  unfolding laneOf
-  lane-past size j h = ap (read sign 2) (number-past 2 bytes (2 * j) (omega arith)) ∙ read-none sign
+  pub pair-past : length bytes ≡ 64 → (j : ℕ) → 32 ≤ j → pairOf bytes j ≡ 0
+  unfolding pairOf
+  pair-past size j h = number-past 2 bytes (2 * j) (omega arith)
 
 -- an element that is stored twice
-pub twice-more : (xs : List ℤ) (i : ℕ) (v : ℤ) (out : List ℤ) → 2 * i + 1 < length out → v ≡ getD xs i (pos 0)
-    → Filled (pos 0) (λ k. getD xs (k / 2) (pos 0)) out (2 * i)
-    → Filled (pos 0) (λ k. getD xs (k / 2) (pos 0)) (set (set out (2 * i) v) (2 * i + 1) v) (2 * (i + 1))
+pub twice-more : (xs : List ℕ) (i v : ℕ) (out : List ℕ) → 2 * i + 1 < length out → v ≡ getD xs i 0
+    → Filled 0 (λ k. getD xs (k / 2) 0) out (2 * i)
+    → Filled 0 (λ k. getD xs (k / 2) 0) (set (set out (2 * i) v) (2 * i + 1) v) (2 * (i + 1))
 twice-more xs i v out h e old j l =
-    let f : ℕ → ℤ = λ k. getD xs (k / 2) (pos 0) in
+    let f : ℕ → ℕ = λ k. getD xs (k / 2) 0 in
     let even : i ≡ (2 * i) / 2 = omega arith in
     let odd : i ≡ (2 * i + 1) / 2 = omega arith in
-    let once : Filled (pos 0) f (set out (2 * i) v) (2 * i + 1) =
-    fill-more (pos 0) f (2 * i) v out (omega arith) (e ∙ ap (λ (k : ℕ). getD xs k (pos 0)) even) old
+    let once : Filled 0 f (set out (2 * i) v) (2 * i + 1) =
+    fill-more 0 f (2 * i) v out (omega arith) (e ∙ ap (λ (k : ℕ). getD xs k 0) even) old
     in
-    fill-more (pos 0) f (2 * i + 1) v (set out (2 * i) v) (simp length-set h) (e ∙ ap (λ (k : ℕ). getD xs k (pos 0)) odd) once j (omega arith)
+    fill-more 0 f (2 * i + 1) v (set out (2 * i) v) (simp length-set h) (e ∙ ap (λ (k : ℕ). getD xs k 0) odd) once j (omega arith)
 
 -- ---- a side
 
-same-all : (n : ℕ) (v : ℤ) → replicate n v ≡ table (λ i. v) 0 n
-same-all n v = fill-all (pos 0) (λ i. v) n n (replicate n v) (length-replicate n v) (omega arith) (λ j l. getD-replicate n j v (pos 0) l)
+-- the first i elements, read as signed, are those that f gives
+abbrev pub Reads : (ℕ → ℤ) → List ℕ → ℕ → Type 0
+Reads f out i = (j : ℕ) → j < i → signed 2 (getD out j 0) ≡ f j
 
-module _ (wide sign : Bool) (bytes : List ℕ) (fixed : Bool) (lane : ℕ) (halved : Bool) where
-  pub side-fixed : (v : ℤ) → v ≡ laneOf sign (laneBytes wide) bytes (lane % (64 / laneBytes wide)) → fixed ≡ true
-      → replicate 64 v ≡ sideOf wide sign bytes fixed lane halved
-  unfolding sideOf indexOf
-  side-fixed v e f =
-      same-all 64 v ∙ (λ t. table (λ i. e t) 0 64) ∙ (λ t. sideOf wide sign bytes (sym f t) lane halved)
+pub reads-more : (f : ℕ → ℤ) (i v : ℕ) (out : List ℕ) → i < length out → signed 2 v ≡ f i → Reads f out i → Reads f (set out i v) (i + 1)
+reads-more f i v out h e old j l =
+    ⊎-elim
+    (λ less. ap (signed 2) (getD-set-other out i j v 0 (λ same. omega (arith, same))) ∙ old j less)
+    (λ more.
+    let same : j ≡ i = omega arith in
+    ap (λ (k : ℕ). signed 2 (getD (set out i v) k 0)) same ∙ ap (signed 2) (getD-set-same out i v 0 h) ∙ e ∙ ap f (sym same))
+    (lt-or-le j i)
 
-  pub side-bytes : fixed ≡ false → wide ≡ false → table (laneOf sign 1 bytes) 0 64 ≡ sideOf wide sign bytes fixed lane halved
-  unfolding sideOf indexOf
-  side-bytes f w = λ t. sideOf (sym w t) sign bytes (sym f t) lane halved
+pub reads-all : (f : ℕ → ℤ) (i : ℕ) (out : List ℕ) → 64 ≤ i → Reads f out i → valuesOf true out ≡ table f 0 64
+unfolding valuesOf
+reads-all f i out h old = table-same (λ k. signed 2 (getD out k 0)) f 64 (λ k l. old k (omega arith))
 
-  pub side-twice : (xs : List ℤ) → xs ≡ table (laneOf sign 2 bytes) 0 32 → fixed ≡ false → wide ≡ true → halved ≡ true
-      → table (λ k. getD xs (k / 2) (pos 0)) 0 64 ≡ sideOf wide sign bytes fixed lane halved
+module _ (wide sign : Bool) (bytes : List ℕ) (fixed : Bool) (lane : ℕ) (halved : Bool) (r : List ℕ) where
+  pub side-fixed : (v : ℕ) → r ≡ replicate 64 v
+      → read (cond wide sign true) 2 v ≡ laneOf sign (laneBytes wide) bytes (lane % (64 / laneBytes wide)) → fixed ≡ true
+      → valuesOf (cond wide sign true) r ≡ sideOf wide sign bytes fixed lane halved
+  unfolding sideOf indexOf valuesOf
+  side-fixed v same e f =
+      ap (valuesOf (cond wide sign true)) same
+      ∙ table-same
+      (λ k. read (cond wide sign true) 2 (getD (replicate 64 v) k 0))
+      (λ k. laneOf sign (laneBytes wide) bytes (lane % (64 / laneBytes wide)))
+      64
+      (λ k l. ap (read (cond wide sign true) 2) (getD-replicate 64 k v 0 l) ∙ e)
+      ∙ (λ t. sideOf wide sign bytes (sym f t) lane halved)
+
+  pub side-bytes : valuesOf true r ≡ table (laneOf sign 1 bytes) 0 64 → fixed ≡ false → wide ≡ false
+      → valuesOf (cond wide sign true) r ≡ sideOf wide sign bytes fixed lane halved
   unfolding sideOf indexOf
-  side-twice xs e f w h =
-      table-same (λ k. getD xs (k / 2) (pos 0)) (λ k. laneOf sign 2 bytes (k / 2)) 64
+  side-bytes e f w = (λ t. valuesOf (cond (w t) sign true) r) ∙ e ∙ (λ t. sideOf (sym w t) sign bytes (sym f t) lane halved)
+
+  pub side-twice : (xs : List ℕ) → xs ≡ table (pairOf bytes) 0 32 → r ≡ table (λ k. getD xs (k / 2) 0) 0 64 → fixed ≡ false → wide ≡ true → halved ≡ true
+      → valuesOf (cond wide sign true) r ≡ sideOf wide sign bytes fixed lane halved
+  unfolding sideOf indexOf valuesOf
+  side-twice xs ex er f w h =
+      (λ t. valuesOf (cond (w t) sign true) (er t))
+      ∙ table-same (λ k. read sign 2 (getD (table (λ i. getD xs (i / 2) 0) 0 64) k 0)) (λ k. laneOf sign 2 bytes (k / 2)) 64
       (λ k l.
-      ap (λ (ys : List ℤ). getD ys (k / 2) (pos 0)) e
-      ∙ getD-table (laneOf sign 2 bytes) (pos 0) 0 32 (k / 2) (omega arith)
-      ∙ ap (laneOf sign 2 bytes) (zero-add (k / 2)))
+      lane-pair sign bytes (k / 2) _
+      (getD-table (λ i. getD xs (i / 2) 0) 0 0 64 k l
+      ∙ ap (λ (i : ℕ). getD xs (i / 2) 0) (zero-add k)
+      ∙ ap (λ (ys : List ℕ). getD ys (k / 2) 0) ex
+      ∙ getD-table (pairOf bytes) 0 0 32 (k / 2) (omega arith)
+      ∙ ap (pairOf bytes) (zero-add (k / 2))))
       ∙ (λ t. sideOf (sym w t) sign bytes (sym f t) lane (sym h t))
 
-  pub side-once : fixed ≡ false → wide ≡ true → halved ≡ false → table (laneOf sign 2 bytes) 0 64 ≡ sideOf wide sign bytes fixed lane halved
-  unfolding sideOf indexOf
-  side-once f w h = λ t. sideOf (sym w t) sign bytes (sym f t) lane (sym h t)
+  pub side-once : r ≡ table (pairOf bytes) 0 64 → fixed ≡ false → wide ≡ true → halved ≡ false
+      → valuesOf (cond wide sign true) r ≡ sideOf wide sign bytes fixed lane halved
+  unfolding sideOf indexOf valuesOf
+  side-once er f w h =
+      (λ t. valuesOf (cond (w t) sign true) (er t))
+      ∙ table-same (λ k. read sign 2 (getD (table (pairOf bytes) 0 64) k 0)) (laneOf sign 2 bytes) 64
+      (λ k l. lane-pair sign bytes k _ (getD-table (pairOf bytes) 0 0 64 k l ∙ ap (pairOf bytes) (zero-add k)))
+      ∙ (λ t. sideOf (sym w t) sign bytes (sym f t) lane (sym h t))

@@ -1,13 +1,14 @@
 -- The lanes of X or Y as integers, and the terms that vecint's ALU makes of them.
 -- Assumes nothing.
-use mathlib.Core.Bool.{Bool, cond, _&&_}
+use mathlib.Core.Bool.{Bool, true, cond, _&&_}
 use mathlib.Core.List.{List}
 use Prim.Native.Nat.{ℕ, _*_, _/_, _%_}
 use lib.Dec.{ltb}
 use lib.IntN.{ℤ, pos, _+ℤ_, _*ℤ_}
 use lib.ListN.{getD}
 use Rattle.number.specs.Bytes.{byteAt, number, table}
-use Rattle.number.specs.Integers.{read, _≫_}
+use Rattle.number.specs.Integers.{read, kept, _≫_}
+use Rattle.sides.specs.declared.SideForm.{SideForm}
 
 -- lane j of b bytes among loaded bytes, signed or not
 unfoldable pub laneOf : Bool → ℕ → List ℕ → ℕ → ℤ
@@ -25,6 +26,10 @@ indexOf wide fixed lane halved k = cond fixed (lane % (64 / laneBytes wide)) (co
 unfoldable pub sideOf : Bool → Bool → List ℕ → Bool → ℕ → Bool → List ℤ
 sideOf wide sign bytes fixed lane halved = table (λ k. laneOf sign (laneBytes wide) bytes (indexOf wide fixed lane halved k)) 0 64
 
+-- the same by the fields that the code has
+abbrev pub sideBy : SideForm → List ℕ → List ℤ
+sideBy how bytes = sideOf (how .wide) (how .sign) bytes (how .fixed) (how .lane) (how .halved)
+
 -- what the ALU makes of two lanes: a sum or a product, rounded in the saturating modes, shifted right
 unfoldable pub termOf : Bool → Bool → ℕ → ℤ → ℤ → ℤ
 termOf plus rounds s x y = (cond plus (x +ℤ y) (x *ℤ y) +ℤ cond rounds (pos 16384) (pos 0)) ≫ s
@@ -33,3 +38,22 @@ termOf plus rounds s x y = (cond plus (x +ℤ y) (x *ℤ y) +ℤ cond rounds (po
 unfoldable pub termsOf : ℕ → Bool → Bool → ℕ → List ℤ → List ℤ → List ℤ
 termsOf n plus rounds s xs ys =
     table (λ k. cond (ltb k n) (termOf plus rounds s (getD xs k (pos 0)) (getD ys k (pos 0))) (pos 0)) 0 64
+
+-- the same, of each term what 32 bits keep
+unfoldable pub keptTerms : ℕ → Bool → Bool → ℕ → List ℤ → List ℤ → List ℤ
+keptTerms n plus rounds s xs ys =
+    table (λ k. cond (ltb k n) (kept 4 (termOf plus rounds s (getD xs k (pos 0)) (getD ys k (pos 0)))) (pos 0)) 0 64
+
+-- ---- as the code has it: a side in 64 numbers of 16 bits
+
+-- lane j of two bytes, as a number
+unfoldable pub pairOf : List ℕ → ℕ → ℕ
+pairOf bytes j = number 2 (byteAt bytes) (2 * j)
+
+-- 16-bit numbers read as signed or not
+unfoldable pub valuesOf : Bool → List ℕ → List ℤ
+valuesOf sign bits = table (λ k. read sign 2 (getD bits k 0)) 0 64
+
+-- how those of a side are read: lanes of a byte are extended, and read as signed
+abbrev pub signedBy : SideForm → Bool
+signedBy how = cond (how .wide) (how .sign) true

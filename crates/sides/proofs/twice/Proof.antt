@@ -1,78 +1,75 @@
 use Prim.Native.Nat.{_-_, _*_, _/_, _≤_}
-use lib.IntN.{pos}
 use lib.ListN.{length, getD, length-set}
 use native.Mathlib.Nat.{not-suc-le-zero}
 use mathlib.Core.Path.{_≡_, refl}
-use borrow.Author.Needs.{needs, sfits-of}
-use mir.Facts.{toZ-ofZ}
-use mir.Syntax.{w32}
 use native.Mathlib.Omega.{arith}
 use Rattle.number.proofs.Fill.{Filled, fill-all}
 use Rattle.sides.proofs.Lanes.{twice-more}
+use borrow.Author.Needs.{needs}
 use Rattle.sides.proofs.twice.Statement.{statement}
 use Rattle.sides.proofs.twice.Tie as tie
 
 abbrev Inv-loop : tie.InvT-loop
-Inv-loop xs out₀ i₀ out i = (i ≤ 32) × (length out ≡ 64) × Filled (pos 0) (λ k. getD xs (k / 2) (pos 0)) out (2 * i)
+Inv-loop xs out₀ i₀ out i = (i ≤ 32) × (length out ≡ 64) × Filled 0 (λ k. getD xs (k / 2) 0) out (2 * i)
 
 abbrev μ-loop : tie.MeasureT-loop
 μ-loop xs out₀ i₀ out i = 32 - i
 
--- src/lib.rt:41:5
+-- src/lib.rt:72:5
 loop-holds : tie.Need-loop-holds Inv-loop μ-loop
 loop-holds c = (omega arith, refl, λ j h. absurd (not-suc-le-zero h))
 
--- src/lib.rt:42:17
+-- src/lib.rt:73:17
 mul-v : tie.Need-mul-v Inv-loop μ-loop
 mul-v c = search needs
 
--- src/lib.rt:42:17
+-- src/lib.rt:73:17
 element-copy-out-v : tie.Need-element-copy-out-v Inv-loop μ-loop
 element-copy-out-v c = search needs
 
--- src/lib.rt:43:13
+-- src/lib.rt:74:13
 mul-out : tie.Need-mul-out Inv-loop μ-loop
 mul-out c = search needs
 
--- src/lib.rt:43:9
+-- src/lib.rt:74:9
 mul-out-2 : tie.Need-mul-out-2 Inv-loop μ-loop
 mul-out-2 c = search needs
 
--- src/lib.rt:43:9
-array-set-from-out : tie.Need-array-set-from-out Inv-loop μ-loop
-array-set-from-out c = search needs
+-- src/lib.rt:74:9
+array-write-out : tie.Need-array-write-out Inv-loop μ-loop
+array-write-out c = search needs
 
--- src/lib.rt:44:13
+-- src/lib.rt:75:13
 mul-out-3 : tie.Need-mul-out-3 Inv-loop μ-loop
 mul-out-3 c = search needs
 
--- src/lib.rt:44:13
+-- src/lib.rt:75:13
 add-out : tie.Need-add-out Inv-loop μ-loop
 add-out c = search needs
 
--- src/lib.rt:44:9
+-- src/lib.rt:75:9
 mul-out-4 : tie.Need-mul-out-4 Inv-loop μ-loop
 mul-out-4 c = search needs
 
--- src/lib.rt:44:9
-array-set-from-out-2 : tie.Need-array-set-from-out-2 Inv-loop μ-loop
-array-set-from-out-2 c = search needs
+-- src/lib.rt:75:9
+array-write-out-2 : tie.Need-array-write-out-2 Inv-loop μ-loop
+array-write-out-2 c = search needs
 
--- src/lib.rt:41:9
+-- src/lib.rt:72:9
 add-i : tie.Need-add-i Inv-loop μ-loop
 add-i c = search needs
 
--- src/lib.rt:41:5
+-- src/lib.rt:72:5
 loop-less : tie.Need-loop-less Inv-loop μ-loop
 loop-less c = search needs
 
--- src/lib.rt:41:5
+-- src/lib.rt:72:5
 loop-again : tie.Need-loop-again Inv-loop μ-loop
-loop-again c = (omega arith, simp length-set (omega arith), twice-more (c .before .before .before .args .xs .now) (c .before .before .loop .i) _ (c .before .before .loop .out) (omega arith) (toZ-ofZ {w = w32} (sfits-of (c .v .given))) (c .before .before .loop .inv .2))
+loop-again c = (omega arith, simp length-set (omega arith), twice-more (c .before .before .before .args .xs .now) (c .before .before .loop .i) _ (c .before .before .loop .out) (omega arith) refl (c .before .before .loop .inv .2))
 
--- src/lib.rt:37:1
+-- src/lib.rt:68:1
 returns : tie.Need-returns Inv-loop μ-loop
-returns c = fill-all (pos 0) (λ k. getD (c .before .before .args .xs .now) (k / 2) (pos 0)) 64 (2 * c .before .loop .i) (c .before .loop .out) (c .before .loop .inv .1) (omega arith) (c .before .loop .inv .2)
+returns c = fill-all 0 (λ k. getD (c .before .before .args .xs .now) (k / 2) 0) 64 (2 * c .before .loop .i) (c .before .loop .out) (c .before .loop .inv .1) (omega arith) (c .before .loop .inv .2)
 
 pub twice-spec : {M : Type 1} → statement M
 twice-spec =
@@ -85,11 +82,11 @@ twice-spec =
     element-copy-out-v
     mul-out
     mul-out-2
-    array-set-from-out
+    array-write-out
     mul-out-3
     add-out
     mul-out-4
-    array-set-from-out-2
+    array-write-out-2
     add-i
     loop-less
     loop-again
