@@ -1,7 +1,7 @@
 // The fields of an operand, and the lanes that enable modes enable. Every function takes every argument.
 ghost use mathlib.Core.Path.{_≡_};
 ghost use mathlib.Core.Bool.{false, cond, _||_};
-ghost use Prim.Native.Nat.{_+_, _*_, _/_, _%_, _<_, _≤_};
+ghost use Prim.Native.Nat.{_+_, _-_, _*_, _/_, _%_, _<_, _≤_};
 ghost use lib.Dec.{eqb, ltb};
 ghost use lib.ListN.{getD};
 ghost use Rattle.number.specs.Bytes.{table};
@@ -12,6 +12,7 @@ ghost use Rattle.isa.specs.Effect.{count};
 ghost use Rattle.isa.specs.Enable.{byParity, firstOrAll, lastOrAll, mac16Enables, vecintEnables};
 ghost use Rattle.isa.specs.Vecint as Vecint;
 ghost use Rattle.operand.specs.Packed.{packed, packedReduction};
+ghost use Rattle.operand.specs.Span.{enablesAll, firstOn, endOn, leftOut, isOn};
 
 // ---- fields
 
@@ -461,13 +462,13 @@ pub fn vector_lanes(op: u64) -> usize
 }
 
 // Of the mask: of X, or of Z in mode 4.
-fn mask_lanes(op: u64) -> u64
+fn mask_lanes(op: u64) -> u8
     ensures { λ r. ⌜ r ≡ cond (Vecint.reduces op) (lanesOf (Vecint.zWidth op)) (lanesOf (Vecint.widths op .x)) ⌝ }
 {
     if reduces(op) {
-        return lanes_of(z_width(op)) as u64;
+        return lanes_of(z_width(op)) as u8;
     }
-    lanes_of(x_width(op)) as u64
+    lanes_of(x_width(op)) as u8
 }
 
 // Whether two lanes follow one of the mask, which is read at X's width.
@@ -482,20 +483,108 @@ fn mask_halved(op: u64) -> bool
     y < x
 }
 
-fn mask_lane(halved: bool, k: u64) -> u64
+fn mask_lane(halved: bool, k: u8) -> u8
     ensures { λ r. ⌜ r ≡ cond halved (k / 2) k ⌝ }
 {
     if halved { k / 2 } else { k }
 }
 
-fn one_mask(lanes: u64, mode: u64, n: u64, halved: bool) -> [bool; 64]
-    ensures { λ r. ⌜ r ≡ table (λ k. vecintEnables lanes mode n (cond halved (k / 2) k)) 0 64 ⌝ }
+// ---- vecint: the mask
+
+// Whether a mode and its value enable every lane.
+fn enables_all(mode: u64, n: u8) -> bool
+    ensures { λ r. ⌜ r ≡ enablesAll mode n ⌝ }
 {
-    let mut out = [false; 64];
-    for k in 0..64 {
-        out[k] = vecint_enables(lanes, mode, n, mask_lane(halved, k as u64));
+    if n == 0 {
+        return mode <= 3;
     }
-    out
+    if mode == 0 {
+        if n < 3 {
+            return false;
+        }
+        return n <= 5;
+    }
+    mode == 1
+}
+
+// The lanes that any mode enables are those from one lane on, before another, but for the even or the odd ones.
+// So one loop makes every mask, and its body is without branches.
+
+fn before_last(lanes: u8, n: u8) -> u8
+    ensures { λ r. ⌜ r ≡ lanes - n ⌝ }
+{
+    if lanes <= n {
+        return 0;
+    }
+    lanes - n
+}
+
+fn first_on(lanes: u8, mode: u64, n: u8) -> u8
+    ensures { λ r. ⌜ r ≡ firstOn lanes mode n ⌝ }
+{
+    if mode == 3 {
+        if n == 0 {
+            return 0;
+        }
+        return before_last(lanes, n);
+    }
+    if mode == 5 {
+        return before_last(lanes, n);
+    }
+    0
+}
+
+fn end_on(mode: u64, n: u8) -> u8
+    ensures { λ r. ⌜ r ≡ endOn mode n ⌝ }
+{
+    if mode == 0 {
+        return if n <= 5 { 64 } else { 0 };
+    }
+    if mode == 2 {
+        return if n == 0 { 64 } else { n };
+    }
+    if mode == 4 {
+        return n;
+    }
+    if mode <= 5 { 64 } else { 0 }
+}
+
+// The remainder by 2 of the lanes left out; 2 for none.
+fn left_out(mode: u64, n: u8) -> u8
+    ensures { λ r. ⌜ r ≡ leftOut mode n ⌝ }
+{
+    if mode == 0 {
+        if n == 1 {
+            return 0;
+        }
+        if n == 2 {
+            return 1;
+        }
+        return 2;
+    }
+    2
+}
+
+fn is_on(first: u8, end: u8, out: u8, i: u8) -> bool
+    ensures { λ r. ⌜ r ≡ isOn first end out i ⌝ }
+{
+    if i < first {
+        return false;
+    }
+    if end <= i {
+        return false;
+    }
+    i % 2 != out
+}
+
+fn span_mask(first: u8, end: u8, out: u8, halved: bool) -> [bool; 64]
+    ensures { λ r. ⌜ r ≡ table (λ k. isOn first end out (cond halved (k / 2) k)) 0 64 ⌝ }
+{
+    let mut mask = [false; 64];
+    for k in 0..64 {
+        mask[k] = is_on(first, end, out, mask_lane(halved, k as u8));
+    }
+    mask
 }
 
 // The enabled lanes of a vector: all of them where there are several vectors.
@@ -505,10 +594,15 @@ pub fn vecint_mask(generation: u64, op: u64) -> [bool; 64]
     if several(generation, op) {
         return [true; 64];
     }
-    one_mask(
-        mask_lanes(op),
-        field(op, 38, 40),
-        field(op, 32, 37),
+    let mode = field(op, 38, 40);
+    let n = field(op, 32, 37) as u8;
+    if enables_all(mode, n) {
+        return [true; 64];
+    }
+    span_mask(
+        first_on(mask_lanes(op), mode, n),
+        end_on(mode, n),
+        left_out(mode, n),
         mask_halved(op),
     )
 }
