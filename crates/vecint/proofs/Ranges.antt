@@ -92,9 +92,13 @@ skip-small : (skip : Bool) (x : ℤ) → mag x < 65536 → mag (cond skip (pos 0
 skip-small true x h = omega arith
 skip-small false x h = h
 
--- before the shift
-made-small : (how : Alu) (x y : ℤ) → mag x < 65536 → mag y < 65536
-    → mag (cond (how .sums) (cond (how .skipx) (pos 0) x +ℤ cond (how .skipy) (pos 0) y) (cond (how .skipx) (pos 0) x *ℤ cond (how .skipy) (pos 0) y) +ℤ cond (how .clamps) (pos 16384) (pos 0)) < 2 ^ 33 + 16385
+-- a term before the shift
+made : Alu → ℤ → ℤ → ℤ
+made how x y =
+    cond (how .sums) (cond (how .skipx) (pos 0) x +ℤ cond (how .skipy) (pos 0) y) (cond (how .skipx) (pos 0) x *ℤ cond (how .skipy) (pos 0) y) +ℤ cond (how .clamps) (pos 16384) (pos 0)
+
+made-small : (how : Alu) (x y : ℤ) → mag x < 65536 → mag y < 65536 → mag (made how x y) < 2 ^ 33 + 16385
+unfolding made
 made-small how x y hx hy =
     mag-add (cond (how .sums) (x′ +ℤ y′) (x′ *ℤ y′)) (cond (how .clamps) (pos 16384) (pos 0)) (by (how .sums)) (half (how .clamps))
   where
@@ -117,13 +121,13 @@ mag-shift (pos n) m = refl
 mag-shift (negsuc n) m = refl
 
 pub term-small : (how : Alu) (s : ℕ) (x y : ℤ) → mag x < 65536 → mag y < 65536 → Small (termBy how s x y)
-unfolding termOf
-term-small how s x y hx hy = omega (arith, made-small how x y hx hy, mag-shr _ (2 ^ s))
+unfolding termOf made
+term-small how s x y hx hy = omega (arith, made-small how x y hx hy, mag-shr (made how x y) (2 ^ s))
 
 -- a term that is shifted by 15 is kept whole in 4 bytes
 pub term-whole : (how : Alu) (s : ℕ) (x y : ℤ) → s ≡ 15 → mag x < 65536 → mag y < 65536 → kept 4 (termBy how s x y) ≡ termBy how s x y
-unfolding termOf
+unfolding termOf made
 term-whole how s x y e hx hy =
     ap (λ (n : ℕ). kept 4 (termBy how n x y)) e
-    ∙ kept-same 4 (termBy how 15 x y) (omega (arith, made-small how x y hx hy, mag-shift _ (2 ^ 15)))
+    ∙ kept-same 4 (termBy how 15 x y) (omega (arith, made-small how x y hx hy, mag-shift (made how x y) (2 ^ 15)))
     ∙ ap (λ (n : ℕ). termBy how n x y) (sym e)

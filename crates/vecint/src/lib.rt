@@ -13,7 +13,7 @@ ghost use Rattle.isa.specs.Vecint as Vecint;
 ghost use Rattle.state.specs.Rows.{dealt};
 ghost use Rattle.vecint.specs.Accumulation.{zBytes, zLanes, summed, clampedSum, accumulated, laneStored, accumulate, rowOf};
 ghost use Rattle.vecint.specs.Modes.{sumsIn, yAlone, negatesIn, aluBy};
-ghost use Rattle.vecint.specs.Vectors.{fixedY, laneY, HoldsX, HoldsY, HoldsTerms, vecintMask, vectorEffect, reduceBy};
+ghost use Rattle.vecint.specs.Vectors.{xBytesOf, yBytesOf, xSideOf, ySideOf, fixedY, laneY, HoldsTerms, vecintMask, vectorEffect, reduceBy};
 
 // ---- lanes of all modes but 4
 
@@ -186,3 +186,268 @@ fn alu_rows(
     }
 }
 
+// ---- modes
+
+fn sums_in(mode: u64) -> bool
+    ensures { λ r. ⌜ r ≡ sumsIn mode ⌝ }
+{
+    if mode == 0 {
+        return false;
+    }
+    if mode == 1 {
+        return false;
+    }
+    if mode == 5 {
+        return false;
+    }
+    if mode == 6 {
+        return false;
+    }
+    mode != 10
+}
+
+fn y_alone(mode: u64) -> bool
+    ensures { λ r. ⌜ r ≡ yAlone mode ⌝ }
+{
+    if mode == 2 {
+        return false;
+    }
+    if mode == 3 {
+        return false;
+    }
+    if mode == 11 {
+        return false;
+    }
+    sums_in(mode)
+}
+
+fn negates_in(mode: u64) -> bool
+    ensures { λ r. ⌜ r ≡ negatesIn mode ⌝ }
+{
+    if mode == 1 {
+        return true;
+    }
+    if mode == 3 {
+        return true;
+    }
+    mode == 6
+}
+
+// What an operand's mode does, and nothing but 0 where its output is forced to 0.
+fn alu_by(generation: u64, op: u64) -> Alu
+    ensures { λ r. ⌜ r ≡ aluBy generation op ⌝ }
+{
+    if operand::overrides(generation, op, 3, 1) {
+        return Alu {
+            sums: false,
+            skipx: true,
+            skipy: true,
+            negates: false,
+            keeps: false,
+            clamps: false,
+        };
+    }
+    let mode = operand::alu_mode(op);
+    Alu {
+        sums: sums_in(mode),
+        skipx: y_alone(mode),
+        skipy: mode == 11,
+        negates: negates_in(mode),
+        keeps: mode != 10,
+        clamps: operand::saturates(op),
+    }
+}
+
+// ---- the sides of a vector
+
+// Whether a side is read as 0: left out by the mode, or by an override.
+fn blank(skip: bool, generation: u64, op: u64, value: u64, broadcast: u64) -> bool
+    ensures { λ r. ⌜ r ≡ cond skip true (Vecint.overrides generation op value broadcast) ⌝ }
+{
+    if skip {
+        return true;
+    }
+    operand::overrides(generation, op, value, broadcast)
+}
+
+// Where the 64 bytes of vector v begin: they advance by 64, but in broadcast modes a and b.
+fn offset(generation: u64, op: u64, v: usize, from: u64, a: u64, b: u64) -> u64
+    requires { ⌜ (v < 4) × (from < 512) ⌝ }
+    ensures { λ r. ⌜ r ≡ from + cond (Vecint.broadcasts generation op a b) 0 (64 * v) ⌝ }
+{
+    if operand::broadcasts(generation, op, a, b) {
+        return from;
+    }
+    from + 64 * (v as u64)
+}
+
+fn x_bytes(state: &[u8], generation: u64, op: u64, v: usize, skip: bool) -> [u8; 64]
+    requires { ⌜ v < 4 ⌝ }
+    ensures { λ r. ⌜ r ≡ xBytesOf generation op (now (state .entry)) v skip ⌝ }
+{
+    let from = offset(generation, op, v, operand::field(op, 10, 18), 2, 6);
+    state::load_unless(blank(skip, generation, op, 4, 4), state, false, from)
+}
+
+fn y_bytes(state: &[u8], generation: u64, op: u64, v: usize, skip: bool) -> [u8; 64]
+    requires { ⌜ v < 4 ⌝ }
+    ensures { λ r. ⌜ r ≡ yBytesOf generation op (now (state .entry)) v skip ⌝ }
+{
+    let from = offset(generation, op, v, operand::field(op, 0, 8), 3, 7);
+    state::load_unless(blank(skip, generation, op, 5, 5), state, true, from)
+}
+
+// How the lanes of X are read.
+fn x_side(generation: u64, op: u64) -> sides::SideForm
+    ensures { λ r. ⌜ r ≡ xSideOf generation op ⌝ }
+{
+    sides::SideForm {
+        wide: operand::x_width(op) == 2,
+        sign: operand::flag(op, 63),
+        fixed: operand::broadcasts(generation, op, 6, 6),
+        lane: 0,
+        halved: operand::y_width(op) == 1,
+    }
+}
+
+// A lane of Y for every lane: by broadcast mode 7 its lane 0, by enable mode 1 the lane that the value names.
+fn fixed_y(generation: u64, op: u64) -> bool
+    ensures { λ r. ⌜ r ≡ fixedY generation op ⌝ }
+{
+    if operand::several(generation, op) {
+        return operand::field(op, 32, 34) == 7;
+    }
+    operand::field(op, 38, 40) == 1
+}
+
+fn lane_y(generation: u64, op: u64) -> usize
+    ensures { λ r. ⌜ r ≡ laneY generation op ⌝ }
+{
+    if operand::several(generation, op) {
+        return 0;
+    }
+    operand::field(op, 32, 37) as usize
+}
+
+fn y_side(generation: u64, op: u64) -> sides::SideForm
+    ensures { λ r. ⌜ r ≡ ySideOf generation op ⌝ }
+{
+    sides::SideForm {
+        wide: operand::y_width(op) == 2,
+        sign: operand::flag(op, 26),
+        fixed: fixed_y(generation, op),
+        lane: lane_y(generation, op),
+        halved: operand::x_width(op) == 1,
+    }
+}
+
+// ---- vectors
+
+fn vector_terms(state: &[u8], generation: u64, op: u64, v: usize, how: Alu) -> [i32; 64]
+    requires { ⌜ (v < 4) × (Vecint.reduces op ≡ false) ⌝ }
+    ensures { λ r. ⌜ HoldsTerms generation op (now (state .entry)) v how r ⌝ }
+{
+    let xs = x_bytes(state, generation, op, v, how.skipx);
+    let ys = y_bytes(state, generation, op, v, how.skipy);
+    sides::kept_terms(
+        &xs,
+        x_side(generation, op),
+        &ys,
+        y_side(generation, op),
+        operand::vector_lanes(op),
+        how.sums,
+        how.clamps,
+        operand::vecint_shift(op),
+    )
+}
+
+// Vector v of a step in any mode but 4.
+fn alu_vector(state: &mut [u8], generation: u64, op: u64, v: usize, on: &[bool; 64])
+    requires { ⌜ (length (now state) ≡ stateLength) × (v < 64 / Vecint.stride generation op) × (Vecint.reduces op ≡ false) × (now on ≡ vecintMask generation op) ⌝ }
+    ensures { λ _. ⌜ now (state .exit) ≡ applied (vectorEffect generation op v (now (state .entry))) (now (state .entry)) ⌝ }
+{
+    let how = alu_by(generation, op);
+    let terms = vector_terms(state, generation, op, v, how);
+    let wide = operand::z_width(op) == 4;
+    alu_rows(
+        state,
+        operand::first_row(generation, op, v),
+        operand::rows_each(op),
+        wide,
+        &terms,
+        on,
+        how,
+    );
+}
+
+// What mode 4 does by an operand.
+fn reduce_by(generation: u64, op: u64) -> reduction::Reduce
+    ensures { λ r. ⌜ r ≡ reduceBy generation op ⌝ }
+{
+    reduction::Reduce {
+        clears: operand::overrides(generation, op, 3, 1),
+        sign: operand::flag(op, 63),
+        rounds: operand::flag(op, 29),
+        shift: operand::vecint_shift(op),
+        clamps: operand::flag(op, 30),
+        below: operand::flag(op, 26),
+        width: operand::saturation_width(op),
+    }
+}
+
+// Vector v of a step in mode 4: a row of Z.
+fn reduce_vector(state: &mut [u8], generation: u64, op: u64, v: usize, on: &[bool; 64])
+    requires { ⌜ (length (now state) ≡ stateLength) × (v < 64 / Vecint.stride generation op) × (Vecint.reduces op ≡ true) × (now on ≡ vecintMask generation op) ⌝ }
+    ensures { λ _. ⌜ now (state .exit) ≡ applied (vectorEffect generation op v (now (state .entry))) (now (state .entry)) ⌝ }
+{
+    let how = reduce_by(generation, op);
+    reduction::reduce_row(
+        state,
+        operand::first_row(generation, op, v),
+        operand::z_width(op),
+        on,
+        how,
+    );
+}
+
+fn vector(state: &mut [u8], generation: u64, op: u64, v: usize, on: &[bool; 64])
+    requires { ⌜ (length (now state) ≡ stateLength) × (v < 64 / Vecint.stride generation op) × (now on ≡ vecintMask generation op) ⌝ }
+    ensures { λ _. ⌜ now (state .exit) ≡ applied (vectorEffect generation op v (now (state .entry))) (now (state .entry)) ⌝ }
+{
+    if operand::reduces(op) {
+        reduce_vector(state, generation, op, v, on);
+        return;
+    }
+    alu_vector(state, generation, op, v, on);
+}
+
+fn each_vector(state: &mut [u8], generation: u64, op: u64, on: &[bool; 64])
+    requires { ⌜ (length (now state) ≡ stateLength) × (now on ≡ vecintMask generation op) ⌝ }
+    ensures { λ _. ⌜ now (state .exit) ≡ applied (Vecint.vecint generation op) (now (state .entry)) ⌝ }
+{
+    let vectors = operand::vectors(generation, op);
+    for v in 0..vectors {
+        vector(state, generation, op, v, on);
+    }
+}
+
+fn lanes_enabled(generation: u64, op: u64, on: &[bool; 64]) -> u64
+    requires { ⌜ now on ≡ vecintMask generation op ⌝ }
+    ensures { λ r. ⌜ r ≡ lanesOn (Vecint.vecint generation op) ⌝ }
+{
+    let n = operand::count_first(on, operand::vector_lanes(op));
+    operand::vectors(generation, op) as u64 * n
+}
+
+// vecint on a state of 5,120 bytes, and the count of enabled lanes; a state of another length stays as it is.
+pub fn step(state: &mut [u8], generation: u64, op: u64) -> u64
+    ensures { λ r. ⌜ (now (state .exit) ≡ cond (eqb (length (now (state .entry))) stateLength) (applied (Vecint.vecint generation op) (now (state .entry))) (now (state .entry)))
+        × (r ≡ cond (eqb (length (now (state .entry))) stateLength) (lanesOn (Vecint.vecint generation op)) 0) ⌝ }
+{
+    if state.len() != 5120 {
+        return 0;
+    }
+    let on = operand::vecint_mask(generation, op);
+    each_vector(state, generation, op, &on);
+    lanes_enabled(generation, op, &on)
+}

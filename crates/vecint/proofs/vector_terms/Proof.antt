@@ -1,0 +1,58 @@
+use Rattle.vecint.proofs.SideLanes.{terms-held}
+use borrow.Author.Needs.{needs}
+use Rattle.vecint.proofs.vector_terms.Statement.{statement}
+use Rattle.vecint.proofs.vector_terms.Tie as tie
+use Rattle.vecint.proofs.vector_terms.Reads as reads
+use Rattle.vecint.proofs.vector_terms.Lts as lts
+use Rattle.operand.proofs.vecint_shift.Reads as vecint-shift-reads
+use Rattle.operand.proofs.vector_lanes.Reads as vector-lanes-reads
+use Rattle.sides.proofs.kept_terms.Reads as kept-terms-reads
+use Rattle.vecint.proofs.x_bytes.Reads as x-bytes-reads
+use Rattle.vecint.proofs.x_side.Reads as x-side-reads
+use Rattle.vecint.proofs.y_bytes.Reads as y-bytes-reads
+use Rattle.vecint.proofs.y_side.Reads as y-side-reads
+
+-- src/lib.rt:350:14
+x-bytes-requires : tie.Need-x-bytes-requires
+x-bytes-requires c κs = search needs
+
+-- src/lib.rt:351:14
+y-bytes-requires : tie.Need-y-bytes-requires
+y-bytes-requires c κs = search needs
+
+-- src/lib.rt:354:9
+x-side-requires : tie.Need-x-side-requires
+x-side-requires c κs = search needs
+
+-- src/lib.rt:356:9
+y-side-requires : tie.Need-y-side-requires
+y-side-requires c κs = search needs
+
+-- src/lib.rt:357:9
+vector-lanes-requires : tie.Need-vector-lanes-requires
+vector-lanes-requires c κs = search needs
+
+-- src/lib.rt:360:9
+vecint-shift-requires : tie.Need-vecint-shift-requires
+vecint-shift-requires c κs = search needs
+
+-- src/lib.rt:352:5
+kept-terms-requires : tie.Need-kept-terms-requires
+kept-terms-requires c κs = search needs
+
+-- src/lib.rt:346:1
+returns : tie.Need-returns
+returns c = terms-held (c .before .before .before .before .before .before .before .before .before .before .args .generation) (c .before .before .before .before .before .before .before .before .before .before .args .op) (c .before .before .before .before .before .before .before .before .before .before .args .state .now) (c .before .before .before .before .before .before .before .before .before .before .args .v) (c .before .before .before .before .before .before .before .before .before .before .args .how) (c .kept-terms .result) (c .before .before .before .before .before .before .before .before .x-bytes .result) (c .before .before .before .before .before .before .before .y-bytes .result) (c .before .before .before .before .before .x-side .result) (c .before .before .before .y-side .result) (c .before .before .vector-lanes .result) (c .before .vecint-shift .result) (c .before .before .before .before .before .before .before .before .before .before .pre .1) (c .before .before .before .before .before .before .before .before .x-bytes .ensures) (c .before .before .before .before .before .before .before .y-bytes .ensures) (c .before .before .before .before .before .x-side .ensures) (c .before .before .before .y-side .ensures) (c .before .before .vector-lanes .ensures .0) (c .before .before .vector-lanes .ensures .1) (c .before .vecint-shift .ensures .0) (c .before .vecint-shift .ensures .1) (c .kept-terms .ensures)
+
+pub vector-terms-spec : {M : Type 1} → statement M
+vector-terms-spec =
+    tie.close
+    (tie.spec
+    x-bytes-requires
+    y-bytes-requires
+    x-side-requires
+    y-side-requires
+    vector-lanes-requires
+    vecint-shift-requires
+    kept-terms-requires
+    returns)
