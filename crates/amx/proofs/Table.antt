@@ -7,7 +7,7 @@ use Prim.Native.Nat.{ℕ}
 use lib.Dec.{eqb}
 use lib.ListN.{length}
 use borrow.Author.Tests.{eq-eqb}
-use Rattle.number.proofs.Tests.{pick-true, pick-false, true-false}
+use Rattle.number.proofs.Tests.{pick-true, true-false}
 use Rattle.isa.specs.declared.Answer.{Answer}
 use Rattle.isa.specs.declared.Answer.the-variants.{Done, NoOp, Refused}
 use Rattle.isa.specs.Effect.{applied, lanesOn}

@@ -1,15 +1,13 @@
 -- A term is kept in 4 bytes: no Z lane is wider, and the saturating modes have terms that lose nothing.
 -- Assumes nothing.
-use mathlib.Core.Path.{_≡_, refl, sym, ap, ap₂, _∙_}
+use mathlib.Core.Path.{_≡_, sym, ap, _∙_}
 use mathlib.Core.Bool.{Bool, true, false, cond}
-use Prim.Native.Nat.{ℕ, _+_, _*_, _/_, _%_, _^_, _≤_, _<_}
+use Prim.Native.Nat.{ℕ, _+_, _%_, _<_}
 use native.Mathlib.Nat.{zero-mod, mod-eq-of-lt}
-use native.Mathlib.Omega.{arith}
-use lib.IntN.{ℤ, pos, negsuc, negℤ, _+ℤ_, +ℤ-invl}
+use lib.IntN.{ℤ, negℤ, _+ℤ_, +ℤ-invl}
 use lib.Pow.{pow-pos}
-use lib.Signed.{mag}
 use Rattle.number.specs.Bytes.{span}
-use Rattle.number.specs.Integers.{signed, wrap, kept, _≫_}
+use Rattle.number.specs.Integers.{wrap, kept}
 use Rattle.number.proofs.Modular.{wrap-lt, wrap-add, wrap-signed, wrap-negative}
 use Rattle.number.proofs.Range.{wrap-low}
 use Rattle.number.proofs.Tests.{two, pick-false}

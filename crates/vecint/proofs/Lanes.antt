@@ -3,7 +3,7 @@
 use mathlib.Core.Path.{_≡_, refl, sym, ap, _∙_}
 use mathlib.Core.Bool.{Bool, true, false, cond, not}
 use Prim.Native.Nat.{ℕ, _+_, _%_, _<_}
-use lib.IntN.{ℤ, pos, negsuc, negℤ, _+ℤ_}
+use lib.IntN.{ℤ, negℤ, _+ℤ_}
 use Rattle.number.specs.Bytes.{span}
 use Rattle.number.specs.Integers.{signed, wrap, kept, clamp, clampSigned}
 use Rattle.number.proofs.Modular.{adds-modulo, takes-modulo}

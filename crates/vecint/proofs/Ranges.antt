@@ -1,6 +1,6 @@
 -- Lanes of X and Y and their terms are far from the ends of an i64, so that the saturating modes keep all of a sum.
 -- Assumes nothing.
-use mathlib.Core.Path.{_≡_, refl, sym, ap, ap₂, _∙_, subst}
+use mathlib.Core.Path.{_≡_, refl, sym, ap, _∙_, subst}
 use mathlib.Core.Bool.{Bool, true, false, cond}
 use mathlib.Core.List.{List}
 use mathlib.Core.Logic.{_⊎_, inl, inr}
@@ -8,14 +8,13 @@ use Prim.Native.Nat.{ℕ, zero, suc, _+_, _*_, _/_, _%_, _^_, _≤_, _<_}
 use native.Mathlib.Omega.{arith}
 use lib.IntN.{ℤ, pos, negsuc, negℤ, _+ℤ_, _*ℤ_}
 use lib.ListN.{take}
-use lib.Pow.{pow-pos}
 use lib.Seq.{getD-take}
 use lib.Signed.{mag, shrZ, mag-shr}
-use Rattle.number.specs.Bytes.{span, byteAt, number}
-use Rattle.number.specs.Integers.{signed, read, kept, clampSigned}
+use Rattle.number.specs.Bytes.{span}
+use Rattle.number.specs.Integers.{read, kept, clampSigned}
 use Rattle.number.proofs.Range.{kept-same, mag-add, mag-mul, mag-signed}
-use Rattle.number.proofs.Tests.{two, pick-true, pick-false}
-use Rattle.isa.specs.Operand.{bits, bit}
+use Rattle.number.proofs.Tests.{two, pick-false}
+use Rattle.isa.specs.Operand.{bit}
 use Rattle.isa.specs.State.{xBase, yBase, loaded}
 use Rattle.isa.specs.Vecint as Vecint
 use Rattle.operand.proofs.Widths.{x-cases, y-cases}

@@ -1,19 +1,19 @@
 -- What the code does with a row in mode 4 is what is meant by the vector.
 -- Assumes nothing.
-use mathlib.Core.Path.{_≡_, refl, sym, ap, ap₂, _∙_, subst}
+use mathlib.Core.Path.{_≡_, refl, sym, ap, _∙_}
 use mathlib.Core.Bool.{Bool, true, false, cond, _||_}
 use mathlib.Core.List.{List}
-use Prim.Native.Nat.{ℕ, _+_, _*_, _/_, _%_, _≤_, _<_}
+use Prim.Native.Nat.{ℕ, _+_, _*_, _%_, _<_}
 use native.Mathlib.Nat.{zero-add, mod-eq-of-lt}
 use native.Mathlib.Omega.{arith}
 use lib.Dec.{eqb}
 use lib.IntN.{ℤ, pos, _+ℤ_}
 use lib.ListN.{length, getD, take}
 use borrow.Author.Tests.{eq-eqb}
-use Rattle.number.specs.Bytes.{span, table}
+use Rattle.number.specs.Bytes.{span}
 use Rattle.number.specs.Integers.{wrap, read, _≫_, halfUnit, clampSigned, clampUnsigned}
 use Rattle.number.proofs.Bytes.{getD-table}
-use Rattle.number.proofs.Tests.{pick-true, pick-false}
+use Rattle.number.proofs.Tests.{pick-true}
 use Rattle.isa.specs.Operand.{bits, bit}
 use Rattle.isa.specs.State.{lanesOf}
 use Rattle.isa.specs.Effect.{applied}

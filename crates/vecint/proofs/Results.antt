@@ -1,24 +1,20 @@
 -- The result of each mode is what one formula makes of it.
 -- Assumes nothing.
-use mathlib.Core.Path.{_≡_, refl, sym, ap, ap₂, _∙_, subst}
+use mathlib.Core.Path.{_≡_, refl, sym, ap, _∙_, subst}
 use mathlib.Core.Bool.{Bool, true, false, cond, not, _||_}
 use mathlib.Core.List.{List}
-use Prim.Native.Nat.{ℕ, _+_, _*_, _^_, _≤_, _<_}
-use native.Mathlib.Nat.{zero-div, zero-mul}
-use native.Mathlib.Omega.{arith}
+use Prim.Native.Nat.{ℕ, _+_, _*_, _^_}
+use native.Mathlib.Nat.{zero-div}
 use lib.Dec.{eqb}
-use lib.IntN.{ℤ, pos, negsuc, negℤ, _+ℤ_, _*ℤ_, +ℤ-idl, +ℤ-idr}
-use lib.Signed.{mag, mag-shr}
+use lib.IntN.{ℤ, pos, negℤ, _+ℤ_, _*ℤ_, +ℤ-idl, +ℤ-idr}
 use borrow.Author.Tests.{eqb-true}
-use Rattle.number.specs.Bytes.{span}
-use Rattle.number.specs.Integers.{signed, wrap, kept, _≫_, clampSigned}
-use Rattle.number.proofs.Range.{kept-same, mag-add}
+use Rattle.number.specs.Integers.{signed, _≫_, clampSigned}
 use Rattle.number.proofs.Tests.{two, pick-true, pick-false}
 use Rattle.isa.specs.Vecint as Vecint
 use Rattle.isa.specs.Vecint.{alu}
 use Rattle.sides.specs.Sides.{termOf}
 use Rattle.vecint.specs.declared.Alu.{Alu}
-use Rattle.vecint.specs.Accumulation.{summed, clampedSum, accumulated}
+use Rattle.vecint.specs.Accumulation.{summed}
 use Rattle.vecint.specs.Modes.{sumsIn, yAlone, negatesIn, aluOf, cleared, aluBy, termBy, outcome}
 
 -- ---- the modes of the table

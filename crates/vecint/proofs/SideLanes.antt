@@ -1,6 +1,6 @@
 -- The lanes of X and Y that a vector uses, as the code reads them.
 -- Assumes nothing.
-use mathlib.Core.Path.{_≡_, refl, sym, ap, ap₂, _∙_, subst}
+use mathlib.Core.Path.{_≡_, refl, sym, ap, _∙_, subst}
 use mathlib.Core.Bool.{Bool, true, false, cond, _&&_, _||_}
 use mathlib.Core.Bool as B
 use mathlib.Core.List.{List}
@@ -13,7 +13,7 @@ use lib.IntN.{ℤ, pos}
 use lib.ListN.{getD, take}
 use lib.Pow.{pow-pos}
 use lib.Seq.{getD-take}
-use Rattle.number.specs.Bytes.{span, byteAt, number, table}
+use Rattle.number.specs.Bytes.{byteAt, number, table}
 use Rattle.number.specs.Integers.{read, kept}
 use Rattle.number.proofs.Bytes.{getD-table, number-same}
 use Rattle.number.proofs.Range.{signed-low}

@@ -1,6 +1,6 @@
 -- What the code does with the terms of a vector is what is meant by the vector.
 -- Assumes nothing.
-use mathlib.Core.Path.{_≡_, refl, sym, ap, ap₂, _∙_, subst}
+use mathlib.Core.Path.{_≡_, refl, sym, ap, _∙_, subst}
 use mathlib.Core.Bool.{Bool, true, false, cond, _||_}
 use mathlib.Core.List.{List}
 use mathlib.Core.Logic.{_⊎_, inl, inr}
@@ -8,14 +8,14 @@ use Prim.Native.Nat.{ℕ, _+_, _*_, _/_, _%_, _^_, _≤_, _<_}
 use native.Mathlib.Nat.{zero-add, mul-comm}
 use native.Mathlib.Omega.{arith}
 use lib.Dec.{eqb}
-use lib.IntN.{ℤ, pos}
+use lib.IntN.{ℤ}
 use lib.ListN.{length, getD, take}
 use lib.Signed.{mag}
 use Rattle.number.specs.Bytes.{span, table}
 use Rattle.number.specs.Integers.{signed, wrap}
 use Rattle.number.proofs.Bytes.{getD-table}
 use Rattle.number.proofs.Range.{mag-signed}
-use Rattle.number.proofs.Tests.{two, pick-true, pick-false, true-false}
+use Rattle.number.proofs.Tests.{pick-true, true-false}
 use Rattle.isa.specs.State.{lanesOf}
 use Rattle.isa.specs.Effect.{applied}
 use Rattle.isa.specs.Vecint as Vecint

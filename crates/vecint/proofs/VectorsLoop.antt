@@ -1,7 +1,7 @@
 -- A loop over the vectors of a step: what it keeps, and that it ends in the step's effect.
 -- Assumes nothing.
 use mathlib.Core.Path.{_≡_, refl, sym, ap, ap₂, _∙_, subst}
-use mathlib.Core.Bool.{Bool, true, false, cond, _&&_, _||_}
+use mathlib.Core.Bool.{Bool, false, cond, _&&_, _||_}
 use mathlib.Core.List.{List}
 use mathlib.Core.Logic.{_⊎_, inl, inr, ⊎-elim}
 use Prim.Native.Nat.{ℕ, _+_, _-_, _*_, _/_, _%_, _≤_, _<_}
@@ -10,7 +10,7 @@ use native.Mathlib.Nat.{zero-add, zero-mul}
 use lib.Dec.{ltb}
 use lib.ListN.{length, getD, take}
 use borrow.Author.Tests.{lt-ltb, le-ltb}
-use Rattle.number.specs.Bytes.{span, byteAt, number, table}
+use Rattle.number.specs.Bytes.{span, byteAt, number}
 use Rattle.number.specs.Integers.{wrap}
 use Rattle.number.proofs.Bytes.{getD-table}
 use Rattle.number.proofs.Tests.{pick-true, pick-false, true-false, lt-or-le}
@@ -22,7 +22,7 @@ use Rattle.operand.proofs.Widths.{z-width-cases, stride-cases}
 use Rattle.operand.proofs.Rows.{by-rows, by-spacing, rows-after, rows-before, row-of-vector, row-among, row-written, row-unwritten}
 use Rattle.state.specs.Rows.{among, dealt}
 use Rattle.state.proofs.Holds.{Bytes, laneAfter, Holds}
-use Rattle.state.proofs.RunLoop.{InRun, among-yes}
+use Rattle.state.proofs.RunLoop.{among-yes}
 use Rattle.state.proofs.RowsLoop.{Below, rows-start, rows-more, rows-end}
 use Rattle.vecint.specs.Vectors.{firstRow, vectorLanes, vectorEffect, vecintMask}
 use Rattle.vecint.proofs.Counts.{count-vecint}

@@ -1,12 +1,8 @@
-use mathlib.Core.Path.{refl, sym, ap, _∙_}
+use mathlib.Core.Path.{ap, _∙_}
 use Rattle.isa.specs.Answers.{normalNumber}
 use borrow.Author.Needs.{needs}
 use Rattle.amx.proofs.amx_normal_answer.Statement.{statement}
 use Rattle.amx.proofs.amx_normal_answer.Tie as tie
-use Rattle.amx.proofs.amx_normal_answer.Reads as reads
-use Rattle.amx.proofs.amx_normal_answer.Lts as lts
-use Rattle.amx.proofs.normal.Reads as normal-reads
-use Rattle.isa.proofs.normal_number.Reads as normal-number-reads
 
 -- src/lib.rt:59:24
 normal-requires : tie.Need-normal-requires

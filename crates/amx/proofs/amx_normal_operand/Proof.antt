@@ -1,11 +1,8 @@
-use mathlib.Core.Path.{refl, sym, ap, _∙_}
+use mathlib.Core.Path.{sym, ap, _∙_}
 use Rattle.isa.specs.Normal.{handedBack}
 use borrow.Author.Needs.{needs}
 use Rattle.amx.proofs.amx_normal_operand.Statement.{statement}
 use Rattle.amx.proofs.amx_normal_operand.Tie as tie
-use Rattle.amx.proofs.amx_normal_operand.Reads as reads
-use Rattle.amx.proofs.amx_normal_operand.Lts as lts
-use Rattle.amx.proofs.normal.Reads as normal-reads
 
 -- src/lib.rt:67:9
 normal-requires : tie.Need-normal-requires

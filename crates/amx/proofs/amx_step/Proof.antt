@@ -1,12 +1,8 @@
-use mathlib.Core.Path.{refl, sym, ap, _∙_}
+use mathlib.Core.Path.{ap, _∙_}
 use Rattle.isa.specs.Answers.{hostNumber}
 use borrow.Author.Needs.{needs}
 use Rattle.amx.proofs.amx_step.Statement.{statement}
 use Rattle.amx.proofs.amx_step.Tie as tie
-use Rattle.amx.proofs.amx_step.Reads as reads
-use Rattle.amx.proofs.amx_step.Lts as lts
-use Rattle.amx.proofs.step.Reads as step-reads
-use Rattle.isa.proofs.host_number.Reads as host-number-reads
 
 -- src/lib.rt:52:22
 step-requires : tie.Need-step-requires

@@ -1,13 +1,8 @@
-use mathlib.Core.Path.{refl, sym, ap, _∙_}
 use borrow.Author.Tests.{eq-eqb, ne-eqb}
 use Rattle.amx.proofs.Table.{ran-mac16, ran-vecint}
 use borrow.Author.Needs.{needs}
 use Rattle.amx.proofs.run.Statement.{statement}
 use Rattle.amx.proofs.run.Tie as tie
-use Rattle.amx.proofs.run.Reads as reads
-use Rattle.amx.proofs.run.Lts as lts
-use Rattle.mac16.proofs.step.Reads as step-reads
-use Rattle.vecint.proofs.step.Reads as step-reads′
 
 -- src/lib.rt:20:9
 step-requires : tie.Need-step-requires

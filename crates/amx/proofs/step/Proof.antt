@@ -1,13 +1,9 @@
-use mathlib.Core.Path.{refl, sym, ap, _∙_}
+use mathlib.Core.Path.{refl}
 use Rattle.isa.specs.declared.Answer.the-variants as answer
 use Rattle.amx.proofs.Table.{step-done, step-not}
 use borrow.Author.Needs.{needs}
 use Rattle.amx.proofs.step.Statement.{statement}
 use Rattle.amx.proofs.step.Tie as tie
-use Rattle.amx.proofs.step.Reads as reads
-use Rattle.amx.proofs.step.Lts as lts
-use Rattle.amx.proofs.run.Reads as run-reads
-use Rattle.call.proofs.answered.Reads as answered-reads
 
 -- src/lib.rt:30:9
 answered-requires : tie.Need-answered-requires

@@ -1,22 +1,11 @@
-use mathlib.Core.Path.{refl, sym, ap, ap₂, _∙_}
-use native.Mathlib.Omega.{arith}
-use borrow.Author.Tests.{eq-eqb, ne-eqb}
+use mathlib.Core.Path.{sym, ap, _∙_}
 use Rattle.number.proofs.Tests.{pick-true, pick-false}
-use Prim.Native.Nat.{ℕ, _+_, _*_}
-use mathlib.Core.Bool.{Bool, true, false, cond, not}
+use mathlib.Core.Bool.{not}
 use lib.Dec.{eqb}
 use Rattle.vecint.specs.Modes.{sumsIn, yAlone, negatesIn, aluBy}
 use borrow.Author.Needs.{needs}
 use Rattle.vecint.proofs.alu_by.Statement.{statement}
 use Rattle.vecint.proofs.alu_by.Tie as tie
-use Rattle.vecint.proofs.alu_by.Reads as reads
-use Rattle.vecint.proofs.alu_by.Lts as lts
-use Rattle.operand.proofs.alu_mode.Reads as alu-mode-reads
-use Rattle.operand.proofs.overrides.Reads as overrides-reads
-use Rattle.operand.proofs.saturates.Reads as saturates-reads
-use Rattle.vecint.proofs.negates_in.Reads as negates-in-reads
-use Rattle.vecint.proofs.sums_in.Reads as sums-in-reads
-use Rattle.vecint.proofs.y_alone.Reads as y-alone-reads
 
 -- src/lib.rt:234:8
 overrides-requires : tie.Need-overrides-requires

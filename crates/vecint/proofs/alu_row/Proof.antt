@@ -1,16 +1,12 @@
-use mathlib.Core.Path.{refl, sym, ap, _∙_, subst}
+use mathlib.Core.Path.{sym, _∙_, subst}
 use native.Mathlib.Omega.{arith}
-use Prim.Native.Nat.{ℕ, _*_, _≤_}
+use Prim.Native.Nat.{_*_, _≤_}
 use mathlib.Core.Bool.{Bool}
 use Rattle.isa.specs.Effect.{applied}
 use Rattle.vecint.specs.Accumulation.{zLanes, rowOf}
 use borrow.Author.Needs.{needs}
 use Rattle.vecint.proofs.alu_row.Statement.{statement}
 use Rattle.vecint.proofs.alu_row.Tie as tie
-use Rattle.vecint.proofs.alu_row.Reads as reads
-use Rattle.vecint.proofs.alu_row.Lts as lts
-use Rattle.vecint.proofs.alu_row16.Reads as alu-row16-reads
-use Rattle.vecint.proofs.alu_row32.Reads as alu-row32-reads
 
 -- src/lib.rt:164:9
 alu-row32-requires : tie.Need-alu-row32-requires

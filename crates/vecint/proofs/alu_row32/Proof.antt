@@ -1,9 +1,9 @@
-use mathlib.Core.Path.{refl, sym, ap, ap₂, _∙_}
+use mathlib.Core.Path.{refl, sym, _∙_}
 use native.Mathlib.Omega.{arith}
 use borrow.Author.Needs.{needs}
-use Prim.Native.Nat.{ℕ, _+_, _*_, _-_, _≤_}
+use Prim.Native.Nat.{_+_, _*_, _-_, _≤_}
 use mathlib.Core.Bool.{true, false}
-use lib.ListN.{length, getD}
+use lib.ListN.{getD}
 use mir.Facts.{toZ-ofZ}
 use mir.Syntax.{w32}
 use borrow.Author.Needs.{sfits-of}
@@ -14,9 +14,6 @@ use Rattle.state.proofs.Dealing.{Lanes, lanes-none, lanes-more, lanes-all}
 use Rattle.vecint.proofs.Bounds.{place-in, lane-at}
 use Rattle.vecint.proofs.alu_row32.Statement.{statement}
 use Rattle.vecint.proofs.alu_row32.Tie as tie
-use Rattle.vecint.proofs.alu_row32.Reads as reads
-use Rattle.vecint.proofs.alu_row32.Lts as lts
-use Rattle.vecint.proofs.lane32.Reads as lane32-reads
 
 abbrev Inv-loop : tie.InvT-loop
 Inv-loop state₀ row q c terms on how start l₀ state l = (l ≤ 16) × Lanes 4 16 refl row (λ l. getD on (l * c + q) false) (λ l. accumulate true how terms (l * c + q)) state₀ l state × Bytes state

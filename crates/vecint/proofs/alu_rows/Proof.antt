@@ -1,18 +1,15 @@
-use mathlib.Core.Path.{refl, sym, ap, ap₂, _∙_}
+use mathlib.Core.Path.{sym, _∙_}
 use native.Mathlib.Omega.{arith}
 use borrow.Author.Needs.{needs}
-use Prim.Native.Nat.{ℕ, _+_, _*_, _-_, _≤_}
-use mathlib.Core.Bool.{Bool, false, cond}
-use lib.ListN.{length, getD}
+use Prim.Native.Nat.{_-_, _≤_}
+use mathlib.Core.Bool.{false}
+use lib.ListN.{getD}
 use Rattle.vecint.specs.Accumulation.{zBytes, zLanes, accumulate}
 use Rattle.state.proofs.Holds.{Bytes}
 use Rattle.vecint.proofs.Bounds.{fits}
 use Rattle.state.proofs.Dealing.{RowsTo, rows-none, rows-one-more, rows-all}
 use Rattle.vecint.proofs.alu_rows.Statement.{statement}
 use Rattle.vecint.proofs.alu_rows.Tie as tie
-use Rattle.vecint.proofs.alu_rows.Reads as reads
-use Rattle.vecint.proofs.alu_rows.Lts as lts
-use Rattle.vecint.proofs.alu_row.Reads as alu-row-reads
 
 abbrev Inv-loop : tie.InvT-loop
 Inv-loop state₀ base c wide terms on how q₀ state q = (q ≤ c) × RowsTo (zBytes wide) (zLanes wide) (fits wide) base c (λ k. getD on k false) (accumulate wide how terms) state₀ q state × Bytes state

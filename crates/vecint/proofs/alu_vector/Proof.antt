@@ -1,8 +1,5 @@
-use mathlib.Core.Path.{refl, sym, ap, ap₂, _∙_, subst}
-use native.Mathlib.Omega.{arith}
-use Prim.Native.Nat.{ℕ, _<_, _%_}
-use lib.IntN.{pos}
-use lib.ListN.{getD}
+use mathlib.Core.Path.{ap, _∙_}
+use Prim.Native.Nat.{ℕ}
 use lib.Dec.{eqb}
 use lib.ListN.{length}
 use Rattle.isa.proofs.Applied.{length-applied}
@@ -11,14 +8,6 @@ use Rattle.vecint.proofs.VectorMeant.{few-vectors, rows-fit, vector-mea
 use borrow.Author.Needs.{needs}
 use Rattle.vecint.proofs.alu_vector.Statement.{statement}
 use Rattle.vecint.proofs.alu_vector.Tie as tie
-use Rattle.vecint.proofs.alu_vector.Reads as reads
-use Rattle.vecint.proofs.alu_vector.Lts as lts
-use Rattle.operand.proofs.first_row.Reads as first-row-reads
-use Rattle.operand.proofs.rows_each.Reads as rows-each-reads
-use Rattle.operand.proofs.z_width.Reads as z-width-reads
-use Rattle.vecint.proofs.alu_by.Reads as alu-by-reads
-use Rattle.vecint.proofs.alu_rows.Reads as alu-rows-reads
-use Rattle.vecint.proofs.vector_terms.Reads as vector-terms-reads
 
 -- src/lib.rt:352:9
 alu-by-requires : tie.Need-alu-by-requires

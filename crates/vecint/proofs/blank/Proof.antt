@@ -1,16 +1,8 @@
-use mathlib.Core.Path.{refl, sym, ap, ap₂, _∙_}
-use native.Mathlib.Omega.{arith}
-use borrow.Author.Tests.{eq-eqb, ne-eqb}
+use mathlib.Core.Path.{sym, _∙_}
 use Rattle.number.proofs.Tests.{pick-true, pick-false}
-use Prim.Native.Nat.{ℕ, _+_, _*_}
-use mathlib.Core.Bool.{Bool, true, false, cond, not}
-use lib.Dec.{eqb}
 use borrow.Author.Needs.{needs}
 use Rattle.vecint.proofs.blank.Statement.{statement}
 use Rattle.vecint.proofs.blank.Tie as tie
-use Rattle.vecint.proofs.blank.Reads as reads
-use Rattle.vecint.proofs.blank.Lts as lts
-use Rattle.operand.proofs.overrides.Reads as overrides-reads
 
 -- src/lib.rt:262:9
 returns : tie.Need-returns

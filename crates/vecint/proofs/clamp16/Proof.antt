@@ -1,25 +1,16 @@
-use mathlib.Core.Path.{refl, sym, ap, ap₂, _∙_}
-use native.Mathlib.Omega.{arith}
+use mathlib.Core.Path.{ap, ap₂, _∙_}
 use mir.Facts.{toZ-ofZ, sfits-widen}
 use mir.Syntax.{w16, w32, w64}
 use borrow.Author.Needs.{sfits-of}
 use lib.IntN.{ℤ, pos, negsuc, negℤ, _+ℤ_}
-use Rattle.number.specs.Bytes.{span, byteAt, number, bytesOf}
+use Rattle.number.specs.Bytes.{span}
 use Rattle.number.specs.Integers.{signed, wrap, kept, clamp}
 use Rattle.number.proofs.Range.{widened}
-use Rattle.number.proofs.Tests.{pick-true, pick-false}
 use Rattle.vecint.proofs.Lanes.{clamp-sum, clamp-term}
 use mathlib.Core.Bool.{cond}
 use borrow.Author.Needs.{needs}
 use Rattle.vecint.proofs.clamp16.Statement.{statement}
 use Rattle.vecint.proofs.clamp16.Tie as tie
-use Rattle.vecint.proofs.clamp16.Reads as reads
-use Rattle.vecint.proofs.clamp16.Lts as lts
-use Rattle.number.proofs.added.Reads as added-reads
-use Rattle.number.proofs.clamped.Reads as clamped-reads
-use Rattle.number.proofs.signed16.Reads as signed16-reads
-use Rattle.number.proofs.wrapped16.Reads as wrapped16-reads
-use Rattle.vecint.proofs.signed_by.Reads as signed-by-reads
 
 -- src/lib.rt:67:31
 signed16-requires : tie.Need-signed16-requires

@@ -1,16 +1,11 @@
-use mathlib.Core.Path.{refl, sym, ap, ap₂, _∙_, subst}
+use mathlib.Core.Path.{sym, _∙_, subst}
 use native.Mathlib.Omega.{arith}
 use borrow.Author.Needs.{needs}
-use Prim.Native.Nat.{ℕ, _<_, _≤_, _-_, _*_}
-use lib.ListN.{length}
+use Prim.Native.Nat.{ℕ, _<_, _≤_, _-_}
 use Rattle.state.proofs.Holds.{Bytes}
 use Rattle.vecint.proofs.VectorsLoop.{VectorsTo, vectors-none, vectors-more, vectors-all}
 use Rattle.vecint.proofs.each_vector.Statement.{statement}
 use Rattle.vecint.proofs.each_vector.Tie as tie
-use Rattle.vecint.proofs.each_vector.Reads as reads
-use Rattle.vecint.proofs.each_vector.Lts as lts
-use Rattle.operand.proofs.vectors.Reads as vectors-reads
-use Rattle.vecint.proofs.vector.Reads as vector-reads
 
 abbrev Inv-loop : tie.InvT-loop
 Inv-loop state₀ generation op on vectors v₀ state v = (v ≤ vectors) × VectorsTo generation op state₀ v state × Bytes state

@@ -1,26 +1,15 @@
-use mathlib.Core.Path.{refl, sym, ap, ap₂, _∙_}
-use native.Mathlib.Omega.{arith}
-use mir.Facts.{toZ-ofZ, sfits-widen}
-use mir.Syntax.{w16, w32, w64}
-use borrow.Author.Needs.{sfits-of}
-use lib.IntN.{ℤ, pos, negsuc, negℤ, _+ℤ_}
-use Rattle.number.specs.Bytes.{span, byteAt, number, bytesOf}
-use Rattle.number.specs.Integers.{signed, wrap, kept, clamp}
-use Rattle.number.proofs.Range.{widened}
-use Rattle.number.proofs.Tests.{pick-true, pick-false}
-use mathlib.Core.Bool.{cond, true, false}
+use mathlib.Core.Path.{refl, ap, ap₂, _∙_}
+use mir.Facts.{toZ-ofZ}
+use lib.IntN.{ℤ}
+use Rattle.number.specs.Bytes.{span, bytesOf}
+use Rattle.number.specs.Integers.{signed, wrap}
+use mathlib.Core.Bool.{cond, false}
 use Prim.Native.Nat.{ℕ}
 use lib.Seq.{sets}
-use Rattle.vecint.specs.Accumulation.{summed, accumulated}
+use Rattle.vecint.specs.Accumulation.{accumulated}
 use borrow.Author.Needs.{needs}
 use Rattle.vecint.proofs.lane16.Statement.{statement}
 use Rattle.vecint.proofs.lane16.Tie as tie
-use Rattle.vecint.proofs.lane16.Reads as reads
-use Rattle.vecint.proofs.lane16.Lts as lts
-use Rattle.number.proofs.get16.Reads as get16-reads
-use Rattle.number.proofs.put16.Reads as put16-reads
-use Rattle.vecint.proofs.chosen16.Reads as chosen16-reads
-use Rattle.vecint.proofs.new16.Reads as new16-reads
 
 -- src/lib.rt:98:9
 get16-requires : tie.Need-get16-requires

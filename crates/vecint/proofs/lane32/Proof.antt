@@ -1,27 +1,16 @@
-use mathlib.Core.Path.{refl, sym, ap, ap₂, _∙_}
-use native.Mathlib.Omega.{arith}
-use mir.Facts.{toZ-ofZ, sfits-widen}
-use mir.Syntax.{w16, w32, w64}
-use borrow.Author.Needs.{sfits-of}
-use lib.IntN.{ℤ, pos, negsuc, negℤ, _+ℤ_}
-use Rattle.number.specs.Bytes.{span, byteAt, number, bytesOf}
-use Rattle.number.specs.Integers.{signed, wrap, kept, clamp}
-use Rattle.number.proofs.Range.{widened}
-use Rattle.number.proofs.Tests.{pick-true, pick-false}
+use mathlib.Core.Path.{refl, ap, ap₂, _∙_}
+use mir.Facts.{toZ-ofZ}
+use lib.IntN.{ℤ}
+use Rattle.number.specs.Bytes.{span, bytesOf}
+use Rattle.number.specs.Integers.{signed, wrap}
 use Rattle.vecint.proofs.Lanes.{wide-summed}
-use mathlib.Core.Bool.{cond, true, false}
+use mathlib.Core.Bool.{cond, true}
 use Prim.Native.Nat.{ℕ}
 use lib.Seq.{sets}
 use Rattle.vecint.specs.Accumulation.{summed, accumulated}
 use borrow.Author.Needs.{needs}
 use Rattle.vecint.proofs.lane32.Statement.{statement}
 use Rattle.vecint.proofs.lane32.Tie as tie
-use Rattle.vecint.proofs.lane32.Reads as reads
-use Rattle.vecint.proofs.lane32.Lts as lts
-use Rattle.number.proofs.get32.Reads as get32-reads
-use Rattle.number.proofs.put32.Reads as put32-reads
-use Rattle.vecint.proofs.chosen32.Reads as chosen32-reads
-use Rattle.vecint.proofs.sum32.Reads as sum32-reads
 
 -- src/lib.rt:106:9
 get32-requires : tie.Need-get32-requires

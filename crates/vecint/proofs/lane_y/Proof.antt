@@ -1,17 +1,8 @@
-use mathlib.Core.Path.{refl, sym, ap, ap₂, _∙_}
-use native.Mathlib.Omega.{arith}
-use borrow.Author.Tests.{eq-eqb, ne-eqb}
+use mathlib.Core.Path.{sym, _∙_}
 use Rattle.number.proofs.Tests.{pick-true, pick-false}
-use Prim.Native.Nat.{ℕ, _+_, _*_}
-use mathlib.Core.Bool.{Bool, true, false, cond, not}
-use lib.Dec.{eqb}
 use borrow.Author.Needs.{needs}
 use Rattle.vecint.proofs.lane_y.Statement.{statement}
 use Rattle.vecint.proofs.lane_y.Tie as tie
-use Rattle.vecint.proofs.lane_y.Reads as reads
-use Rattle.vecint.proofs.lane_y.Lts as lts
-use Rattle.operand.proofs.field.Reads as field-reads
-use Rattle.operand.proofs.several.Reads as several-reads
 
 -- src/lib.rt:307:8
 several-requires : tie.Need-several-requires

@@ -1,17 +1,10 @@
-use mathlib.Core.Path.{refl, sym, ap, ap₂, _∙_, subst}
 use native.Mathlib.Omega.{arith}
-use Prim.Native.Nat.{ℕ, _<_, _≤_, _-_, _*_}
-use lib.ListN.{length}
+use Prim.Native.Nat.{_≤_, _-_, _*_}
 use native.Mathlib.Nat.{mul-le-mul}
 use Rattle.vecint.proofs.VectorsLoop.{counted}
 use borrow.Author.Needs.{needs}
 use Rattle.vecint.proofs.lanes_enabled.Statement.{statement}
 use Rattle.vecint.proofs.lanes_enabled.Tie as tie
-use Rattle.vecint.proofs.lanes_enabled.Reads as reads
-use Rattle.vecint.proofs.lanes_enabled.Lts as lts
-use Rattle.operand.proofs.count_first.Reads as count-first-reads
-use Rattle.operand.proofs.vector_lanes.Reads as vector-lanes-reads
-use Rattle.operand.proofs.vectors.Reads as vectors-reads
 
 -- src/lib.rt:421:38
 vector-lanes-requires : tie.Need-vector-lanes-requires

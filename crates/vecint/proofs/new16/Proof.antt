@@ -1,22 +1,13 @@
-use mathlib.Core.Path.{refl, sym, ap, ap₂, _∙_}
-use native.Mathlib.Omega.{arith}
-use mir.Facts.{toZ-ofZ, sfits-widen}
-use mir.Syntax.{w16, w32, w64}
-use borrow.Author.Needs.{sfits-of}
-use lib.IntN.{ℤ, pos, negsuc, negℤ, _+ℤ_}
-use Rattle.number.specs.Bytes.{span, byteAt, number, bytesOf}
-use Rattle.number.specs.Integers.{signed, wrap, kept, clamp}
-use Rattle.number.proofs.Range.{widened}
-use Rattle.number.proofs.Tests.{pick-true, pick-false}
+use mathlib.Core.Path.{ap, _∙_}
+use mir.Facts.{toZ-ofZ}
+use lib.IntN.{ℤ}
+use Rattle.number.specs.Bytes.{span}
+use Rattle.number.specs.Integers.{signed, wrap}
 use Rattle.vecint.proofs.Lanes.{is-clamped, is-summed}
 use Rattle.vecint.specs.Accumulation.{summed, clampedSum}
 use borrow.Author.Needs.{needs}
 use Rattle.vecint.proofs.new16.Statement.{statement}
 use Rattle.vecint.proofs.new16.Tie as tie
-use Rattle.vecint.proofs.new16.Reads as reads
-use Rattle.vecint.proofs.new16.Lts as lts
-use Rattle.vecint.proofs.clamp16.Reads as clamp16-reads
-use Rattle.vecint.proofs.sum16.Reads as sum16-reads
 
 -- src/lib.rt:77:9
 clamp16-requires : tie.Need-clamp16-requires

@@ -1,16 +1,10 @@
-use mathlib.Core.Path.{refl, sym, ap, ap₂, _∙_}
+use mathlib.Core.Path.{sym, ap, _∙_}
 use native.Mathlib.Omega.{arith}
-use borrow.Author.Tests.{eq-eqb, ne-eqb}
 use Rattle.number.proofs.Tests.{pick-true, pick-false}
-use Prim.Native.Nat.{ℕ, _+_, _*_}
-use mathlib.Core.Bool.{Bool, true, false, cond, not}
-use lib.Dec.{eqb}
+use Prim.Native.Nat.{ℕ, _+_}
 use borrow.Author.Needs.{needs}
 use Rattle.vecint.proofs.offset.Statement.{statement}
 use Rattle.vecint.proofs.offset.Tie as tie
-use Rattle.vecint.proofs.offset.Reads as reads
-use Rattle.vecint.proofs.offset.Lts as lts
-use Rattle.operand.proofs.broadcasts.Reads as broadcasts-reads
 
 -- src/lib.rt:272:8
 broadcasts-requires : tie.Need-broadcasts-requires

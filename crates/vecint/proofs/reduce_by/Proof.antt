@@ -1,12 +1,6 @@
 use borrow.Author.Needs.{needs}
 use Rattle.vecint.proofs.reduce_by.Statement.{statement}
 use Rattle.vecint.proofs.reduce_by.Tie as tie
-use Rattle.vecint.proofs.reduce_by.Reads as reads
-use Rattle.vecint.proofs.reduce_by.Lts as lts
-use Rattle.operand.proofs.flag.Reads as flag-reads
-use Rattle.operand.proofs.overrides.Reads as overrides-reads
-use Rattle.operand.proofs.saturation_width.Reads as saturation-width-reads
-use Rattle.operand.proofs.vecint_shift.Reads as vecint-shift-reads
 
 -- src/lib.rt:371:17
 overrides-requires : tie.Need-overrides-requires

@@ -1,18 +1,10 @@
-use mathlib.Core.Path.{refl, sym, ap, ap₂, _∙_, subst}
-use native.Mathlib.Omega.{arith}
-use Prim.Native.Nat.{ℕ, _<_, _≤_, _-_, _*_}
-use lib.ListN.{length}
+use mathlib.Core.Path.{_∙_}
+use Prim.Native.Nat.{_-_}
 use Rattle.operand.proofs.Rows.{first-row-of}
 use Rattle.vecint.proofs.ReduceMeant.{reduce-meant}
 use borrow.Author.Needs.{needs}
 use Rattle.vecint.proofs.reduce_vector.Statement.{statement}
 use Rattle.vecint.proofs.reduce_vector.Tie as tie
-use Rattle.vecint.proofs.reduce_vector.Reads as reads
-use Rattle.vecint.proofs.reduce_vector.Lts as lts
-use Rattle.operand.proofs.first_row.Reads as first-row-reads
-use Rattle.operand.proofs.z_width.Reads as z-width-reads
-use Rattle.reduction.proofs.reduce_row.Reads as reduce-row-reads
-use Rattle.vecint.proofs.reduce_by.Reads as reduce-by-reads
 
 -- src/lib.rt:386:9
 reduce-by-requires : tie.Need-reduce-by-requires

@@ -1,18 +1,12 @@
-use mathlib.Core.Path.{refl, sym, ap, ap₂, _∙_}
-use native.Mathlib.Omega.{arith}
+use mathlib.Core.Path.{sym, ap, _∙_}
 use mir.Facts.{toZ-ofZ}
-use mir.Syntax.{w16, w64}
 use borrow.Author.Needs.{sfits-of}
-use lib.IntN.{ℤ, pos, negsuc, negℤ, _+ℤ_}
-use Rattle.number.specs.Bytes.{span, byteAt, number, bytesOf}
-use Rattle.number.specs.Integers.{signed, wrap, kept, clamp}
+use lib.IntN.{ℤ, negℤ}
+use Rattle.number.specs.Integers.{kept}
 use Rattle.number.proofs.Tests.{pick-true, pick-false}
 use borrow.Author.Needs.{needs}
 use Rattle.vecint.proofs.signed_by.Statement.{statement}
 use Rattle.vecint.proofs.signed_by.Tie as tie
-use Rattle.vecint.proofs.signed_by.Reads as reads
-use Rattle.vecint.proofs.signed_by.Lts as lts
-use Rattle.number.proofs.negated.Reads as negated-reads
 
 -- src/lib.rt:60:18
 negated-requires : tie.Need-negated-requires

@@ -5,11 +5,6 @@ use Rattle.number.proofs.Tests.{pick-true, pick-false}
 use borrow.Author.Needs.{needs}
 use Rattle.vecint.proofs.step.Statement.{statement}
 use Rattle.vecint.proofs.step.Tie as tie
-use Rattle.vecint.proofs.step.Reads as reads
-use Rattle.vecint.proofs.step.Lts as lts
-use Rattle.operand.proofs.vecint_mask.Reads as vecint-mask-reads
-use Rattle.vecint.proofs.each_vector.Reads as each-vector-reads
-use Rattle.vecint.proofs.lanes_enabled.Reads as lanes-enabled-reads
 
 -- src/lib.rt:431:9
 returns : tie.Need-returns

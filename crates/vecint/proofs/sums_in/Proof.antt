@@ -1,16 +1,9 @@
-use mathlib.Core.Path.{refl, sym, ap, ap₂, _∙_}
-use native.Mathlib.Omega.{arith}
-use borrow.Author.Needs.{needs}
+use mathlib.Core.Path.{sym, _∙_}
 use borrow.Author.Tests.{eq-eqb, ne-eqb}
 use Rattle.number.proofs.Tests.{pick-true, pick-false}
-use Prim.Native.Nat.{ℕ, _+_, _*_}
-use mathlib.Core.Bool.{Bool, true, false, cond, not}
-use lib.Dec.{eqb}
 use Rattle.vecint.specs.Modes.{sumsIn}
 use Rattle.vecint.proofs.sums_in.Statement.{statement}
 use Rattle.vecint.proofs.sums_in.Tie as tie
-use Rattle.vecint.proofs.sums_in.Reads as reads
-use Rattle.vecint.proofs.sums_in.Lts as lts
 
 -- src/lib.rt:189:9
 returns : tie.Need-returns

@@ -1,15 +1,8 @@
-use mathlib.Core.Path.{refl, sym, ap, ap₂, _∙_, subst}
-use native.Mathlib.Omega.{arith}
-use Prim.Native.Nat.{ℕ, _<_, _≤_, _-_, _*_}
-use lib.ListN.{length}
+use mathlib.Core.Path.{sym, _∙_}
+use Prim.Native.Nat.{_-_}
 use borrow.Author.Needs.{needs}
 use Rattle.vecint.proofs.vector.Statement.{statement}
 use Rattle.vecint.proofs.vector.Tie as tie
-use Rattle.vecint.proofs.vector.Reads as reads
-use Rattle.vecint.proofs.vector.Lts as lts
-use Rattle.operand.proofs.reduces.Reads as reduces-reads
-use Rattle.vecint.proofs.alu_vector.Reads as alu-vector-reads
-use Rattle.vecint.proofs.reduce_vector.Reads as reduce-vector-reads
 
 -- src/lib.rt:400:8
 reduces-requires : tie.Need-reduces-requires

@@ -2,15 +2,6 @@ use Rattle.vecint.proofs.SideLanes.{terms-held}
 use borrow.Author.Needs.{needs}
 use Rattle.vecint.proofs.vector_terms.Statement.{statement}
 use Rattle.vecint.proofs.vector_terms.Tie as tie
-use Rattle.vecint.proofs.vector_terms.Reads as reads
-use Rattle.vecint.proofs.vector_terms.Lts as lts
-use Rattle.operand.proofs.vecint_shift.Reads as vecint-shift-reads
-use Rattle.operand.proofs.vector_lanes.Reads as vector-lanes-reads
-use Rattle.sides.proofs.kept_terms.Reads as kept-terms-reads
-use Rattle.vecint.proofs.x_bytes.Reads as x-bytes-reads
-use Rattle.vecint.proofs.x_side.Reads as x-side-reads
-use Rattle.vecint.proofs.y_bytes.Reads as y-bytes-reads
-use Rattle.vecint.proofs.y_side.Reads as y-side-reads
 
 -- src/lib.rt:350:14
 x-bytes-requires : tie.Need-x-bytes-requires

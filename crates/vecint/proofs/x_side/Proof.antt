@@ -2,12 +2,6 @@ use lib.Dec.{eqb}
 use borrow.Author.Needs.{needs}
 use Rattle.vecint.proofs.x_side.Statement.{statement}
 use Rattle.vecint.proofs.x_side.Tie as tie
-use Rattle.vecint.proofs.x_side.Reads as reads
-use Rattle.vecint.proofs.x_side.Lts as lts
-use Rattle.operand.proofs.broadcasts.Reads as broadcasts-reads
-use Rattle.operand.proofs.flag.Reads as flag-reads
-use Rattle.operand.proofs.x_width.Reads as x-width-reads
-use Rattle.operand.proofs.y_width.Reads as y-width-reads
 
 -- src/lib.rt:305:15
 x-width-requires : tie.Need-x-width-requires

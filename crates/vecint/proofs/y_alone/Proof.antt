@@ -1,17 +1,10 @@
-use mathlib.Core.Path.{refl, sym, ap, ap₂, _∙_}
-use native.Mathlib.Omega.{arith}
+use mathlib.Core.Path.{sym, _∙_}
 use borrow.Author.Tests.{eq-eqb, ne-eqb}
 use Rattle.number.proofs.Tests.{pick-true, pick-false}
-use Prim.Native.Nat.{ℕ, _+_, _*_}
-use mathlib.Core.Bool.{Bool, true, false, cond, not}
-use lib.Dec.{eqb}
 use Rattle.vecint.specs.Modes.{yAlone}
 use borrow.Author.Needs.{needs}
 use Rattle.vecint.proofs.y_alone.Statement.{statement}
 use Rattle.vecint.proofs.y_alone.Tie as tie
-use Rattle.vecint.proofs.y_alone.Reads as reads
-use Rattle.vecint.proofs.y_alone.Lts as lts
-use Rattle.vecint.proofs.sums_in.Reads as sums-in-reads
 
 -- src/lib.rt:207:9
 returns : tie.Need-returns

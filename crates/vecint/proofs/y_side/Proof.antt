@@ -2,13 +2,6 @@ use lib.Dec.{eqb}
 use borrow.Author.Needs.{needs}
 use Rattle.vecint.proofs.y_side.Statement.{statement}
 use Rattle.vecint.proofs.y_side.Tie as tie
-use Rattle.vecint.proofs.y_side.Reads as reads
-use Rattle.vecint.proofs.y_side.Lts as lts
-use Rattle.operand.proofs.flag.Reads as flag-reads
-use Rattle.operand.proofs.x_width.Reads as x-width-reads
-use Rattle.operand.proofs.y_width.Reads as y-width-reads
-use Rattle.vecint.proofs.fixed_y.Reads as fixed-y-reads
-use Rattle.vecint.proofs.lane_y.Reads as lane-y-reads
 
 -- src/lib.rt:336:15
 y-width-requires : tie.Need-y-width-requires
