@@ -2,16 +2,16 @@
 ghost use mathlib.Core.Path.{_≡_};
 ghost use mathlib.Core.Bool.{false, cond, _||_};
 ghost use Prim.Native.Nat.{_+_, _-_, _*_, _/_, _%_, _<_, _≤_};
-ghost use lib.Dec.{ltb};
+ghost use lib.Dec.{eqb, ltb};
 ghost use lib.ListN.{getD};
 ghost use Rattle.number.specs.Bytes.{table};
 ghost use Rattle.isa.specs.Operand.{bits, bit};
 ghost use Rattle.isa.specs.State.{lanesOf};
 ghost use Rattle.isa.specs.Enable as Enable;
 ghost use Rattle.isa.specs.Effect.{count};
-ghost use Rattle.isa.specs.Enable.{byParity, firstOrAll, lastOrAll, mac16Enables};
+ghost use Rattle.isa.specs.Enable.{byParity, firstOrAll, lastOrAll, mac16Enables, vecintEnables};
 ghost use Rattle.isa.specs.Vecint as Vecint;
-ghost use Rattle.operand.specs.Digits.{digitOf, widthNumber};
+ghost use Rattle.operand.specs.Packed.{packed, packedReduction};
 ghost use Rattle.operand.specs.Span.{enablesAll, firstOn, endOn, leftOut, isOn};
 
 // ---- fields
@@ -111,9 +111,9 @@ pub fn mac16_mask(mode: u64, n: u64) -> [bool; 32]
     out
 }
 
-// ---- counts, in bytes, of which the compiler adds 16 at a time
+// ---- counts
 
-fn one_if(on: bool) -> u8
+fn one_if(on: bool) -> u64
     ensures { λ r. ⌜ (r ≡ cond on 1 0) × (r ≤ 1) ⌝ }
 {
     if on { 1 } else { 0 }
@@ -123,11 +123,11 @@ fn one_if(on: bool) -> u8
 pub fn count32(on: &[bool; 32]) -> u64
     ensures { λ r. ⌜ (r ≡ count (λ i. getD (now (on .entry)) i false) 32) × (r ≤ 32) ⌝ }
 {
-    let mut n = 0u8;
+    let mut n = 0u64;
     for i in 0..32 {
         n += one_if(on[i]);
     }
-    n as u64
+    n
 }
 
 // A number of lanes, of 64 at most.
@@ -142,14 +142,39 @@ pub fn count_first(on: &[bool; 64], n: usize) -> u64
     ensures { λ r. ⌜ (r ≡ count (λ i. getD (now (on .entry)) i false) (cond (ltb n 64) n 64)) × (r ≤ 64) ⌝ }
 {
     let lanes = up_to_64(n);
-    let mut enabled = 0u8;
+    let mut enabled = 0u64;
     for k in 0..lanes {
         enabled += one_if(on[k]);
     }
-    enabled as u64
+    enabled
 }
 
 // ---- vecint: fields
+
+// Whether vecint enables lane i of so many.
+pub fn vecint_enables(lanes: u64, mode: u64, n: u64, i: u64) -> bool
+    ensures { λ r. ⌜ r ≡ vecintEnables lanes mode n i ⌝ }
+{
+    if mode == 0 {
+        return by_parity(n, n <= 5, i);
+    }
+    if mode == 1 {
+        return true;
+    }
+    if mode == 2 {
+        return first_or_all(n, i);
+    }
+    if mode == 3 {
+        return last_or_all(lanes, n, i);
+    }
+    if mode == 4 {
+        return i < n;
+    }
+    if mode == 5 {
+        return last(lanes, n, i);
+    }
+    false
+}
 
 // With bit 53 set the mode is 0.
 pub fn alu_mode(op: u64) -> u64
@@ -227,72 +252,111 @@ pub fn broadcasts(generation: u64, op: u64, a: u64, b: u64) -> bool
 
 // ---- vecint: lane widths, in bytes
 
-// Tables by the number in bits 42 to 45, a hex digit for each number, 0 the last: the compiler makes a table of this size a constant.
-const X_WIDTHS: u64 = 0x2221_1122_2222_2222;
+// By the number in bits 42 to 45, a hex digit each for Z, Y and X: 0x422 is Z of 4 bytes, Y of 2 and X of 2.
+const WIDTHS: [u16; 16] = [
+    0x222,
+    0x222,
+    0x222,
+    0x422,
+    0x222,
+    0x222,
+    0x222,
+    0x222,
+    0x222,
+    0x222,
+    0x411,
+    0x211,
+    0x421,
+    0x412,
+    0x222,
+    0x222,
+];
 
-const Y_WIDTHS: u64 = 0x2212_1122_2222_2222;
+// The same for mode 4, a hex digit each for Z and the saturation: 0x42 is Z of 4 bytes, clamped to 2.
+const REDUCTIONS: [u8; 16] = [
+    0x22,
+    0x22,
+    0x22,
+    0x42,
+    0x44,
+    0x22,
+    0x22,
+    0x22,
+    0x22,
+    0x11,
+    0x41,
+    0x21,
+    0x22,
+    0x22,
+    0x22,
+    0x22,
+];
 
-const Z_WIDTHS: u64 = 0x2244_2422_2222_4222;
-// Z's width over the narrower of X's and Y's, and the lanes at that one, in sixteens.
-const ROWS: u64 = 0x1144_2411_1111_2111;
-
-const SIXTEENS: u64 = 0x2244_4422_2222_2222;
-// Mode 4: of a Z lane, the lanes at that width, in sixteens, and of the saturation.
-const REDUCED_WIDTHS: u64 = 0x2222_2412_2224_4222;
-
-const REDUCED_SIXTEENS: u64 = 0x2222_2142_2221_1222;
-
-const SATURATIONS: u64 = 0x2222_1112_2224_2222;
-
-fn digit(table: u64, n: u32) -> usize
-    requires { ⌜ n < 16 ⌝ }
-    ensures { λ r. ⌜ (r ≡ digitOf table n) × (r < 16) ⌝ }
+// The number in bits 42 to 45.
+fn width_number(op: u64) -> usize
+    ensures { λ r. ⌜ (r ≡ bits op 42 45) × (r < 16) ⌝ }
 {
-    ((table >> (4 * n)) % 16) as usize
+    field(op, 42, 45) as usize
 }
 
-// Modes 5 and 6 have the widths of number 0.
-fn width_number(op: u64) -> u32
-    ensures { λ r. ⌜ (r ≡ widthNumber op) × (r < 16) ⌝ }
+fn packed_widths(op: u64) -> u16
+    ensures { λ r. ⌜ r ≡ packed (Vecint.widths op) ⌝ }
 {
     if saturates(op) {
-        return 0;
+        return 0x222;
     }
-    field(op, 42, 45) as u32
+    WIDTHS[width_number(op)]
+}
+
+fn packed_reduction(op: u64) -> u8
+    ensures { λ r. ⌜ r ≡ packedReduction (Vecint.reduction op) ⌝ }
+{
+    REDUCTIONS[width_number(op)]
 }
 
 // Of an X lane, and of a Y lane.
 pub fn x_width(op: u64) -> usize
     ensures { λ r. ⌜ (r ≡ Vecint.widths op .x) × (r ≤ 2) ⌝ }
 {
-    digit(X_WIDTHS, width_number(op))
+    (packed_widths(op) % 16) as usize
 }
 
 pub fn y_width(op: u64) -> usize
     ensures { λ r. ⌜ (r ≡ Vecint.widths op .y) × (r ≤ 2) ⌝ }
 {
-    digit(Y_WIDTHS, width_number(op))
+    (packed_widths(op) / 16 % 16) as usize
 }
 
 // Of a Z lane, in all modes.
 pub fn z_width(op: u64) -> usize
     ensures { λ r. ⌜ (r ≡ Vecint.zWidth op) × (r ≤ 4) ⌝ }
 {
-    let n = width_number(op);
     if reduces(op) {
-        return digit(REDUCED_WIDTHS, n);
+        return (packed_reduction(op) / 16) as usize;
     }
-    digit(Z_WIDTHS, n)
+    (packed_widths(op) / 256) as usize
 }
 
 // Of the range that mode 4 clamps to.
 pub fn saturation_width(op: u64) -> usize
     ensures { λ r. ⌜ (r ≡ Vecint.reduction op .saturation) × (r ≤ 4) ⌝ }
 {
-    digit(SATURATIONS, field(op, 42, 45) as u32)
+    (packed_reduction(op) % 16) as usize
 }
 
 // ---- vecint: rows
+
+// Of an X or a Y lane, whichever is the narrower.
+fn narrower(op: u64) -> usize
+    ensures { λ r. ⌜ r ≡ Vecint.narrower (Vecint.widths op) ⌝ }
+{
+    let x = x_width(op);
+    let y = y_width(op);
+    if x <= y {
+        return x;
+    }
+    y
+}
 
 // The rows that a vector's lanes are dealt to; one in mode 4.
 pub fn rows_each(op: u64) -> usize
@@ -301,7 +365,11 @@ pub fn rows_each(op: u64) -> usize
     if reduces(op) {
         return 1;
     }
-    digit(ROWS, width_number(op))
+    let z = z_width(op);
+    if narrower(op) == 2 {
+        return z / 2;
+    }
+    z
 }
 
 // The rows from one vector to the next: of four vectors, of two, of one.
@@ -370,15 +438,27 @@ pub fn first_row(generation: u64, op: u64, v: usize) -> usize
 
 // ---- vecint: lanes
 
+// In 64 bytes, of 1, 2 or 4 bytes each.
+fn lanes_of(b: usize) -> usize
+    ensures { λ r. ⌜ (r ≡ cond (eqb b 1) 64 (cond (eqb b 2) 32 16)) × (r ≤ 64) ⌝ }
+{
+    if b == 1 {
+        return 64;
+    }
+    if b == 2 {
+        return 32;
+    }
+    16
+}
+
 // Of a vector, over all of its rows.
 pub fn vector_lanes(op: u64) -> usize
     ensures { λ r. ⌜ (r ≡ Vecint.rowsEach op * lanesOf (Vecint.zWidth op)) × (r ≤ 64) ⌝ }
 {
-    let n = width_number(op);
     if reduces(op) {
-        return 16 * digit(REDUCED_SIXTEENS, n);
+        return lanes_of(z_width(op));
     }
-    16 * digit(SIXTEENS, n)
+    lanes_of(narrower(op))
 }
 
 // Of the mask: of X, or of Z in mode 4.
@@ -386,9 +466,9 @@ fn mask_lanes(op: u64) -> u8
     ensures { λ r. ⌜ r ≡ cond (Vecint.reduces op) (lanesOf (Vecint.zWidth op)) (lanesOf (Vecint.widths op .x)) ⌝ }
 {
     if reduces(op) {
-        return vector_lanes(op) as u8;
+        return lanes_of(z_width(op)) as u8;
     }
-    if x_width(op) == 1 { 64 } else { 32 }
+    lanes_of(x_width(op)) as u8
 }
 
 // Whether two lanes follow one of the mask, which is read at X's width.
