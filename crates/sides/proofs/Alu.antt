@@ -73,6 +73,13 @@ module _ (n m : ℕ) (many : m ≡ cond (ltb n 64) n 64) where
       (λ more. omega (arith, many ∙ pick-false _ _ (le-ltb n 64 more)))
       (lt-or-le n 64)
 
+  pub inside : (k : ℕ) → k < n → k < 64 → k < m
+  inside k h l =
+      ⊎-elim
+      (λ less. omega (arith, many ∙ pick-true _ _ (lt-ltb n 64 less)))
+      (λ more. omega (arith, many ∙ pick-false _ _ (le-ltb n 64 more)))
+      (lt-or-le n 64)
+
   module _ (plus rounds : Bool) (s : ℕ) (xs ys : List ℤ) (k : ℕ) where
     pub term-in : (v : ℤ) → k < m → v ≡ termOf plus rounds s (getD xs k (pos 0)) (getD ys k (pos 0)) → v ≡ termAt n plus rounds s xs ys k
     term-in v h e = e ∙ sym (pick-true _ _ (lt-ltb k n (within k h)))

@@ -1,9 +1,10 @@
 -- What 32 bits keep of a term, by the parts that the code makes, and of the first terms of two sides.
 -- Assumes nothing.
-use mathlib.Core.Path.{_≡_, refl, sym, ap, ap₂, _∙_, subst}
+use mathlib.Core.Path.{_≡_, sym, ap, ap₂, _∙_, subst}
 use mathlib.Core.Bool.{Bool, true, false, cond}
 use mathlib.Core.List.{List}
-use Prim.Native.Nat.{ℕ, zero, suc, _+_, _*_, _/_, _%_, _^_, _≤_, _<_}
+use mathlib.Core.Logic.{⊎-elim}
+use Prim.Native.Nat.{ℕ, zero, suc, _+_, _*_, _/_, _^_, _≤_, _<_}
 use native.Mathlib.Nat.{mul-le-mul, mod-eq-of-lt, zero-add}
 use native.Mathlib.Omega.{arith}
 use lib.Dec.{ltb}
@@ -14,12 +15,11 @@ use mir.Syntax.{w32}
 use mir.Val.{SFits, toZ, ofZ}
 use mir.Facts.{toZ-ofZ}
 use borrow.Author.Tests.{lt-ltb, le-ltb}
-use Rattle.number.specs.Bytes.{span, table}
 use Rattle.number.specs.Integers.{signed, read, kept, _≫_}
 use Rattle.number.proofs.Bytes.{getD-table, table-same}
 use Rattle.number.proofs.Range.{kept-same, mag-signed, mag-add}
-use Rattle.number.proofs.Tests.{pick-true, pick-false}
-use Rattle.sides.specs.Sides.{sideBy, termOf, keptTerms, valuesOf, signedBy}
+use Rattle.number.proofs.Tests.{lt-or-le, pick-true, pick-false}
+use Rattle.sides.specs.Sides.{sideBy, termOf, keptTerms, valuesOf, signedBy, HoldsLanes}
 use Rattle.sides.specs.declared.SideForm.{SideForm}
 use Rattle.sides.proofs.Alu.{within, beyond}
 
@@ -123,7 +123,20 @@ kept-swap n rounds s xs ys =
     table-same (keptAt n false rounds s ys xs) (keptAt n false rounds s xs ys) 64
     (λ k l. λ t. cond (ltb k n) (kept 4 ((*ℤ-comm (getD ys k (pos 0)) (getD xs k (pos 0)) t +ℤ cond rounds (pos 16384) (pos 0)) ≫ s)) (pos 0))
 
+-- sides that have the same lanes, as far as lanes are used
+pub kept-lanes : (n : ℕ) (plus rounds : Bool) (s : ℕ) (xs ys us vs : List ℤ)
+    → ((k : ℕ) → k < n → k < 64 → getD xs k (pos 0) ≡ getD us k (pos 0)) → ((k : ℕ) → k < n → k < 64 → getD ys k (pos 0) ≡ getD vs k (pos 0))
+    → keptTerms n plus rounds s xs ys ≡ keptTerms n plus rounds s us vs
+unfolding keptTerms
+kept-lanes n plus rounds s xs ys us vs ex ey =
+    table-same (keptAt n plus rounds s xs ys) (keptAt n plus rounds s us vs) 64
+    (λ k l.
+    ⊎-elim
+    (λ less. λ t. cond (ltb k n) (kept 4 (termOf plus rounds s (ex k less l t) (ey k less l t))) (pos 0))
+    (λ more. pick-false _ _ (le-ltb k n more) ∙ sym (pick-false _ _ (le-ltb k n more)))
+    (lt-or-le k n))
+
 -- a side, read as the code does
-pub read-side : (how : SideForm) (bytes bits : List ℕ) (sign : Bool) → valuesOf (signedBy how) bits ≡ sideBy how bytes → sign ≡ signedBy how
-    → valuesOf sign bits ≡ sideBy how bytes
-read-side how bytes bits sign e s = ap (λ (b : Bool). valuesOf b bits) s ∙ e
+pub read-lanes : (n : ℕ) (how : SideForm) (bytes bits : List ℕ) (sign : Bool) → HoldsLanes n (signedBy how) bits (sideBy how bytes) → sign ≡ signedBy how
+    → (k : ℕ) → k < n → k < 64 → getD (valuesOf sign bits) k (pos 0) ≡ getD (sideBy how bytes) k (pos 0)
+read-lanes n how bytes bits sign e s k l h = values-at sign bits k h ∙ ap (λ (b : Bool). read b 2 (getD bits k 0)) s ∙ e k l h

@@ -8,39 +8,43 @@ use Prim.Native.Nat.{ℕ, suc, _+_, _-_, _*_, _/_, _%_, _≤_, _<_}
 use native.Mathlib.Nat.{zero-add}
 use native.Mathlib.Omega.{arith}
 use borrow.Author.Tests.{le-ltb}
-use lib.IntN.{ℤ, negsuc}
-use lib.ListN.{length, getD, set, length-set, replicate, getD-replicate}
+use lib.IntN.{ℤ, pos, negsuc, _-ℤ_}
+use lib.ListN.{length, getD, set, length-set}
 use lib.Seq.{getD-set-same, getD-set-other}
 use Rattle.number.specs.Bytes.{span, byteAt, number, table}
 use Rattle.number.specs.Integers.{signed, read}
 use Rattle.number.proofs.Bytes.{getD-table, table-same}
-use Rattle.number.proofs.Range.{sub-lt, signed-low}
+use Rattle.number.proofs.Range.{sub-lt, sub-le, signed-low}
 use Rattle.number.proofs.Slice.{one-byte, two-bytes, number-past}
 use Rattle.number.proofs.Fill.{Filled, fill-more}
 use Rattle.number.proofs.Tests.{lt-or-le, pick-true, pick-false}
-use Rattle.sides.specs.Sides.{laneOf, laneBytes, indexOf, sideOf, pairOf, valuesOf}
+use Rattle.sides.specs.Sides.{laneOf, laneBytes, indexOf, sideOf, pairOf, valuesOf, Holds, HoldsLanes}
+use Rattle.sides.proofs.Elements.{side-at}
 
 -- ---- a lane
 
 signed-high : (b n : ℕ) → n < span b → span b ≤ 2 * n → signed b n ≡ negsuc (span b - suc n)
 signed-high b n h l = pick-false _ _ (le-ltb (2 * n) (span b) l) ∙ sub-lt n (span b) h
 
--- a byte in 16 bits
-module _ (sign : Bool) (n : ℕ) (byte : n < 256) where
-  pub sign-extended : (r : ℕ) → r < 65536 → sign ≡ true → (r + 128) % 65536 ≡ (n + 128) % 256 → signed 2 r ≡ read sign 1 n
-  sign-extended r h t e =
-      ⊎-elim
-      (λ less.
-      let same : r ≡ n = omega (arith, e) in
-      ap (signed 2) same ∙ signed-low 2 n (omega arith) ∙ sym (signed-low 1 n (omega arith)))
-      (λ more.
-      let same : 65536 - suc r ≡ 256 - suc n = omega (arith, e) in
-      signed-high 2 r h (omega (arith, e)) ∙ ap negsuc same ∙ sym (signed-high 1 n byte (omega arith)))
-      (lt-or-le n 128)
-      ∙ sym (pick-true _ _ t)
+-- a byte, with 128 added modulo 256 and taken off again
+pub shifted-byte : (n : ℕ) → n < 256 → pos ((n + 128) % 256) -ℤ pos 128 ≡ signed 1 n
+shifted-byte n h =
+    ⊎-elim
+    (λ less.
+    let same : (n + 128) % 256 - 128 ≡ n = omega arith in
+    sub-le ((n + 128) % 256) 128 (omega arith) ∙ ap pos same ∙ sym (signed-low 1 n (omega arith)))
+    (λ more.
+    let same : 128 - suc ((n + 128) % 256) ≡ 256 - suc n = omega arith in
+    sub-lt ((n + 128) % 256) 128 (omega arith) ∙ ap negsuc same ∙ sym (signed-high 1 n h (omega arith)))
+    (lt-or-le n 128)
 
-  pub zero-extended : sign ≡ false → signed 2 n ≡ read sign 1 n
-  zero-extended t = signed-low 2 n (omega arith) ∙ sym (pick-false _ _ t)
+-- a byte in 16 bits
+module _ (sign : Bool) (n : ℕ) where
+  pub sign-extended : (r : ℕ) (v : ℤ) → sign ≡ true → signed 2 r ≡ v → v ≡ signed 1 n → signed 2 r ≡ read sign 1 n
+  sign-extended r v t e f = e ∙ f ∙ sym (pick-true _ _ t)
+
+  pub zero-extended : n < 256 → sign ≡ false → signed 2 n ≡ read sign 1 n
+  zero-extended h t = signed-low 2 n (omega arith) ∙ sym (pick-false _ _ t)
 
 module _ (sign : Bool) (bytes : List ℕ) where
   pub lane-byte : (j r : ℕ) → signed 2 r ≡ read sign 1 (byteAt bytes j) → signed 2 r ≡ laneOf sign 1 bytes j
@@ -91,49 +95,63 @@ reads-more f i v out h e old j l =
     ap (λ (k : ℕ). signed 2 (getD (set out i v) k 0)) same ∙ ap (signed 2) (getD-set-same out i v 0 h) ∙ e ∙ ap f (sym same))
     (lt-or-le j i)
 
-pub reads-all : (f : ℕ → ℤ) (i : ℕ) (out : List ℕ) → 64 ≤ i → Reads f out i → valuesOf true out ≡ table f 0 64
-unfolding valuesOf
-reads-all f i out h old = table-same (λ k. signed 2 (getD out k 0)) f 64 (λ k l. old k (omega arith))
+pub reads-all : (f : ℕ → ℤ) (i : ℕ) (out : List ℕ) → 64 ≤ i → Reads f out i → HoldsLanes 64 true out (table f 0 64)
+reads-all f i out h old k l m = old k (omega arith) ∙ sym (getD-table f (pos 0) 0 64 k l ∙ ap f (zero-add k))
 
-module _ (wide sign : Bool) (bytes : List ℕ) (fixed : Bool) (lane : ℕ) (halved : Bool) (r : List ℕ) where
-  pub side-fixed : (v : ℕ) → r ≡ replicate 64 v
+module _ (wide sign : Bool) (bytes : List ℕ) (fixed : Bool) (lane : ℕ) (halved : Bool) (n : ℕ) (r : List ℕ) where
+  pub side-fixed : (v : ℕ) → Holds n r (λ k. v)
       → read (cond wide sign true) 2 v ≡ laneOf sign (laneBytes wide) bytes (lane % (64 / laneBytes wide)) → fixed ≡ true
-      → valuesOf (cond wide sign true) r ≡ sideOf wide sign bytes fixed lane halved
-  unfolding sideOf indexOf valuesOf
-  side-fixed v same e f =
-      ap (valuesOf (cond wide sign true)) same
-      ∙ table-same
-      (λ k. read (cond wide sign true) 2 (getD (replicate 64 v) k 0))
-      (λ k. laneOf sign (laneBytes wide) bytes (lane % (64 / laneBytes wide)))
-      64
-      (λ k l. ap (read (cond wide sign true) 2) (getD-replicate 64 k v 0 l) ∙ e)
-      ∙ (λ t. sideOf wide sign bytes (sym f t) lane halved)
+      → HoldsLanes n (cond wide sign true) r (sideOf wide sign bytes fixed lane halved)
+  unfolding indexOf
+  side-fixed v same e f k l h =
+      ap (read (cond wide sign true) 2) (same k l h)
+      ∙ e
+      ∙ (λ t. laneOf sign (laneBytes wide) bytes (indexOf wide (sym f t) lane halved k))
+      ∙ sym (side-at wide sign bytes fixed lane halved k h)
 
-  pub side-bytes : valuesOf true r ≡ table (laneOf sign 1 bytes) 0 64 → fixed ≡ false → wide ≡ false
-      → valuesOf (cond wide sign true) r ≡ sideOf wide sign bytes fixed lane halved
+  pub side-bytes : HoldsLanes 64 true r (table (laneOf sign 1 bytes) 0 64) → fixed ≡ false → wide ≡ false
+      → HoldsLanes n (cond wide sign true) r (sideOf wide sign bytes fixed lane halved)
   unfolding sideOf indexOf
-  side-bytes e f w = (λ t. valuesOf (cond (w t) sign true) r) ∙ e ∙ (λ t. sideOf (sym w t) sign bytes (sym f t) lane halved)
+  side-bytes e f w k l h =
+      (λ t. read (cond (w t) sign true) 2 (getD r k 0))
+      ∙ e k h h
+      ∙ (λ t. getD (sideOf (sym w t) sign bytes (sym f t) lane halved) k (pos 0))
 
-  pub side-twice : (xs : List ℕ) → xs ≡ table (pairOf bytes) 0 32 → r ≡ table (λ k. getD xs (k / 2) 0) 0 64 → fixed ≡ false → wide ≡ true → halved ≡ true
-      → valuesOf (cond wide sign true) r ≡ sideOf wide sign bytes fixed lane halved
-  unfolding sideOf indexOf valuesOf
-  side-twice xs ex er f w h =
-      (λ t. valuesOf (cond (w t) sign true) (er t))
-      ∙ table-same (λ k. read sign 2 (getD (table (λ i. getD xs (i / 2) 0) 0 64) k 0)) (λ k. laneOf sign 2 bytes (k / 2)) 64
-      (λ k l.
-      lane-pair sign bytes (k / 2) _
-      (getD-table (λ i. getD xs (i / 2) 0) 0 0 64 k l
-      ∙ ap (λ (i : ℕ). getD xs (i / 2) 0) (zero-add k)
+  -- lanes of two bytes, each of them twice or once
+  pairs-at : (j k : ℕ) → k < 64 → getD r k 0 ≡ pairOf bytes j → indexOf true false lane halved k ≡ j → fixed ≡ false → wide ≡ true
+      → read (cond wide sign true) 2 (getD r k 0) ≡ getD (sideOf wide sign bytes fixed lane halved) k (pos 0)
+  pairs-at j k h e i f w =
+      (λ t. read (cond (w t) sign true) 2 (getD r k 0))
+      ∙ lane-pair sign bytes j _ e
+      ∙ (λ t. laneOf sign (laneBytes (sym w t)) bytes (sym i t))
+      ∙ (λ t. laneOf sign (laneBytes wide) bytes (indexOf (sym w t) (sym f t) lane halved k))
+      ∙ sym (side-at wide sign bytes fixed lane halved k h)
+
+  pub side-twice : (xs : List ℕ) → xs ≡ table (pairOf bytes) 0 32 → Holds n r (λ k. getD xs (k / 2) 0) → fixed ≡ false → wide ≡ true → halved ≡ true
+      → HoldsLanes n (cond wide sign true) r (sideOf wide sign bytes fixed lane halved)
+  unfolding indexOf
+  side-twice xs ex er f w d k l h =
+      pairs-at (k / 2) k h
+      (er k l h
       ∙ ap (λ (ys : List ℕ). getD ys (k / 2) 0) ex
       ∙ getD-table (pairOf bytes) 0 0 32 (k / 2) (omega arith)
-      ∙ ap (pairOf bytes) (zero-add (k / 2))))
-      ∙ (λ t. sideOf (sym w t) sign bytes (sym f t) lane (sym h t))
+      ∙ ap (pairOf bytes) (zero-add (k / 2)))
+      (λ t. indexOf true false lane (d t) k)
+      f w
 
   pub side-once : r ≡ table (pairOf bytes) 0 64 → fixed ≡ false → wide ≡ true → halved ≡ false
+      → HoldsLanes n (cond wide sign true) r (sideOf wide sign bytes fixed lane halved)
+  unfolding indexOf
+  side-once er f w d k l h =
+      pairs-at k k h
+      (ap (λ (ys : List ℕ). getD ys k 0) er ∙ getD-table (pairOf bytes) 0 0 64 k h ∙ ap (pairOf bytes) (zero-add k))
+      (λ t. indexOf true false lane (d t) k)
+      f w
+
+  -- all of it
+  pub side-values : HoldsLanes 64 (cond wide sign true) r (sideOf wide sign bytes fixed lane halved)
       → valuesOf (cond wide sign true) r ≡ sideOf wide sign bytes fixed lane halved
-  unfolding sideOf indexOf valuesOf
-  side-once er f w h =
-      (λ t. valuesOf (cond (w t) sign true) (er t))
-      ∙ table-same (λ k. read sign 2 (getD (table (pairOf bytes) 0 64) k 0)) (laneOf sign 2 bytes) 64
-      (λ k l. lane-pair sign bytes k _ (getD-table (pairOf bytes) 0 0 64 k l ∙ ap (pairOf bytes) (zero-add k)))
-      ∙ (λ t. sideOf (sym w t) sign bytes (sym f t) lane (sym h t))
+  unfolding sideOf valuesOf
+  side-values e =
+      table-same (λ k. read (cond wide sign true) 2 (getD r k 0)) (λ k. laneOf sign (laneBytes wide) bytes (indexOf wide fixed lane halved k)) 64
+      (λ k l. e k l l ∙ side-at wide sign bytes fixed lane halved k l)

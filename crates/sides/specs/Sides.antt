@@ -1,8 +1,9 @@
 -- The lanes of X or Y as integers, and the terms that vecint's ALU makes of them.
 -- Assumes nothing.
+use mathlib.Core.Path.{_≡_}
 use mathlib.Core.Bool.{Bool, true, cond, _&&_}
 use mathlib.Core.List.{List}
-use Prim.Native.Nat.{ℕ, _*_, _/_, _%_}
+use Prim.Native.Nat.{ℕ, _*_, _/_, _%_, _<_}
 use lib.Dec.{ltb}
 use lib.IntN.{ℤ, pos, _+ℤ_, _*ℤ_}
 use lib.ListN.{getD}
@@ -57,3 +58,10 @@ valuesOf sign bits = table (λ k. read sign 2 (getD bits k 0)) 0 64
 -- how those of a side are read: lanes of a byte are extended, and read as signed
 abbrev pub signedBy : SideForm → Bool
 signedBy how = cond (how .wide) (how .sign) true
+
+-- what the first n of 64 are, as far as lanes are used; and what they are when read so
+abbrev pub Holds : ℕ → List ℕ → (ℕ → ℕ) → Type 0
+Holds n bits f = (k : ℕ) → k < n → k < 64 → getD bits k 0 ≡ f k
+
+abbrev pub HoldsLanes : ℕ → Bool → List ℕ → List ℤ → Type 0
+HoldsLanes n sign bits lanes = (k : ℕ) → k < n → k < 64 → read sign 2 (getD bits k 0) ≡ getD lanes k (pos 0)

@@ -8,7 +8,7 @@ ghost use lib.ListN.{getD};
 ghost use lib.Signed.{mag};
 ghost use Rattle.number.specs.Bytes.{table};
 ghost use Rattle.number.specs.Integers.{signed, read, kept, _≫_};
-ghost use Rattle.sides.specs.Sides.{laneOf, laneBytes, sideOf, sideBy, termOf, termsOf, keptTerms, pairOf, valuesOf, signedBy};
+ghost use Rattle.sides.specs.Sides.{laneOf, laneBytes, sideOf, sideBy, termOf, termsOf, keptTerms, pairOf, valuesOf, signedBy, Holds, HoldsLanes};
 
 // How 64 bytes make a side: lanes of two bytes or of one, signed or not; one lane for all, or each lane of two bytes twice, where the other side
 // is narrower.
@@ -20,21 +20,43 @@ pub struct SideForm {
     pub halved: bool,
 }
 
+fn at_most_64(n: usize) -> usize
+    ensures { λ r. ⌜ (r ≡ cond (ltb n 64) n 64) × (r ≤ 64) ⌝ }
+{
+    if n < 64 { n } else { 64 }
+}
+
 // ---- a side in 64 numbers of 16 bits, which the compiler does eight at a time
 
-// A byte in 16 bits. The sum and the difference are what the compiler knows as an extension of the sign.
+// The sum and the difference are what the compiler knows as an extension of the sign.
+fn sign8(n: u8) -> i16
+    ensures { λ r. ⌜ r ≡ signed 1 n ⌝ }
+{
+    ((n as u16 + 128) % 256) as i16 - 128
+}
+
+fn bits16(v: i16) -> u16
+    ensures { λ r. ⌜ signed 2 r ≡ v ⌝ }
+{
+    if v < 0 {
+        return u16::MAX - ((-1 - v) as u16);
+    }
+    v as u16
+}
+
+// A byte in 16 bits.
 fn extended(sign: bool, n: u8) -> u16
     ensures { λ r. ⌜ signed 2 r ≡ read sign 1 n ⌝ }
 {
     if sign {
-        return std::num::wrapping_sub_u16((n as u16 + 128) % 256, 128);
+        return bits16(sign8(n));
     }
     n as u16
 }
 
 // The 64 lanes of a byte.
 fn bytes16(bytes: &[u8; 64], sign: bool) -> [u16; 64]
-    ensures { λ r. ⌜ valuesOf true r ≡ table (laneOf sign 1 (now (bytes .entry))) 0 64 ⌝ }
+    ensures { λ r. ⌜ HoldsLanes 64 true r (table (laneOf sign 1 (now (bytes .entry))) 0 64) ⌝ }
 {
     let mut out = [0u16; 64];
     for i in 0..64 {
@@ -65,14 +87,27 @@ fn half_pairs(bytes: &[u8; 64]) -> [u16; 32]
     out
 }
 
-fn twice(xs: &[u16; 32]) -> [u16; 64]
-    ensures { λ r. ⌜ r ≡ table (λ k. getD (now (xs .entry)) (k / 2) 0) 0 64 ⌝ }
+// As many as are used: the compiler spells out a loop of a fixed length, and then does the lanes one by one.
+fn twice(xs: &[u16; 32], n: usize) -> [u16; 64]
+    ensures { λ r. ⌜ Holds n r (λ k. getD (now (xs .entry)) (k / 2) 0) ⌝ }
 {
     let mut out = [0u16; 64];
-    for i in 0..32 {
+    let m = (at_most_64(n) + 1) / 2;
+    for i in 0..m {
         let v = xs[i];
         out[2 * i] = v;
         out[2 * i + 1] = v;
+    }
+    out
+}
+
+fn filled(v: u16, n: usize) -> [u16; 64]
+    ensures { λ r. ⌜ Holds n r (λ k. v) ⌝ }
+{
+    let mut out = [0u16; 64];
+    let m = at_most_64(n);
+    for i in 0..m {
+        out[i] = v;
     }
     out
 }
@@ -100,19 +135,19 @@ fn one_lane(bytes: &[u8; 64], how: SideForm) -> u16
     one_byte(bytes, how.sign, how.lane)
 }
 
-// The lanes that a side gives: one for all, each twice where the other side is narrower, or each once.
-fn side16(bytes: &[u8; 64], how: SideForm) -> [u16; 64]
-    ensures { λ r. ⌜ valuesOf (signedBy how) r ≡ sideBy how (now (bytes .entry)) ⌝ }
+// The first n lanes that a side gives: one for all, each twice where the other side is narrower, or each once.
+fn side16(bytes: &[u8; 64], how: SideForm, n: usize) -> [u16; 64]
+    ensures { λ r. ⌜ HoldsLanes n (signedBy how) r (sideBy how (now (bytes .entry))) ⌝ }
 {
     if how.fixed {
-        return [one_lane(bytes, how); 64];
+        return filled(one_lane(bytes, how), n);
     }
     if !how.wide {
         return bytes16(bytes, how.sign);
     }
     if how.halved {
         let xs = half_pairs(bytes);
-        return twice(&xs);
+        return twice(&xs, n);
     }
     pairs(*bytes)
 }
@@ -150,7 +185,7 @@ pub fn side(
         lane: lane,
         halved: halved,
     };
-    let bits = side16(bytes, how);
+    let bits = side16(bytes, how, 64);
     values(&bits, signed_by(how))
 }
 
@@ -176,12 +211,6 @@ fn term(plus: bool, rounds: bool, s: u32, x: i32, y: i32) -> i64
     ensures { λ r. ⌜ r ≡ termOf plus rounds (s % 32) x y ⌝ }
 {
     number::shifted(combined(plus, x, y) + rounding(rounds), s)
-}
-
-fn at_most_64(n: usize) -> usize
-    ensures { λ r. ⌜ (r ≡ cond (ltb n 64) n 64) × (r ≤ 64) ⌝ }
-{
-    if n < 64 { n } else { 64 }
 }
 
 // The terms of the first n lanes of two sides, shifted by s modulo 32; the others are 0.
@@ -387,8 +416,8 @@ pub fn kept_terms(
 ) -> [i32; 64]
     ensures { λ r. ⌜ r ≡ keptTerms n plus rounds (s % 32) (sideBy x (now (xbytes .entry))) (sideBy y (now (ybytes .entry))) ⌝ }
 {
-    let xs = side16(xbytes, x);
-    let ys = side16(ybytes, y);
+    let xs = side16(xbytes, x, n);
+    let ys = side16(ybytes, y, n);
     if plus {
         return sums(n, rounds, s, &xs, signed_by(x), &ys, signed_by(y));
     }
