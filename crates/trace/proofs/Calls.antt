@@ -7,11 +7,12 @@ use native.Mathlib.Nat.{add-zero, zero-add, add-suc, suc-add}
 use native.Mathlib.Numerals.{add-one}
 use native.Mathlib.Omega.{arith}
 use lib.ListN.{length}
-use lib.Seq.{sets}
+use lib.Seq.{sets, length-sets}
 use Rattle.number.specs.Bytes.{table}
 use Rattle.isa.specs.Call.{Call}
 use Rattle.isa.specs.Answers.{answerOf}
 use Rattle.isa.specs.Step.{stepped, run}
+use Rattle.isa.proofs.Step.{stepped-length}
 use Rattle.file.specs.File.{callAt, calls, startOf}
 use Rattle.file.proofs.Records.{length-calls}
 use Rattle.text.specs.Lines.{stepLine}
@@ -79,6 +80,16 @@ steps-more file out₀ state out state′ out′ i at at′ (s, front) t back = 
     all =
         subst (λ (xs : List ℕ). Stored out₀ 0 xs out′ at′) (ap (λ (u : List ℕ). linesTo file i ++ line u) s ∙ sym (linesTo-more file i))
         (stored-append out₀ out out′ 0 at at′ (linesTo file i) (line state) front back)
+
+-- neither changes its length
+length-run : (cs : List Call) (s : List ℕ) → length (run cs s) ≡ length s
+length-run [] s = refl
+length-run (c ∷ cs) s = length-run cs (stepped c s) ∙ stepped-length c s
+
+pub steps-length : (file out₀ state₀ state out : List ℕ) (i at : ℕ) → state₀ ≡ startOf file → Stepped file out₀ i state out at
+    → (length state ≡ length state₀) × (length out ≡ length out₀)
+steps-length file out₀ state₀ state out i at e (s, (w, l)) =
+    (ap length s ∙ length-run (calls file i) (startOf file) ∙ ap length (sym e), ap length w ∙ length-sets out₀ 0 (linesTo file i))
 
 -- all steps, where the loop leaves
 pub steps-all : (file out₀ state out : List ℕ) (n i at : ℕ) → i ≤ n → n ≤ i → Stepped file out₀ i state out at

@@ -30,6 +30,7 @@ step-printed file state state′ out out′ at i n r h most ran answer next (s, 
     let same : answer ≡ answerOf (length state) (callAt file i) = step-answer file state i n h most ran answer next e f in
     let line : Stored out at (stepLine i (answerOf (length state) (callAt file i))) out′ r =
     subst (λ (a : Answer). Stored out at (stepLine i a) out′ r) same stored
-    in
-    ((s ∙ step-state file state i n h most, line .0, line .1),
-    omega (arith, line .1, line-short i (length state) (callAt file i) (omega arith)))
+    in (
+      (s ∙ step-state file state i n h most, line .0, line .1),
+      omega (arith, line .1, line-short i (length state) (callAt file i) (omega arith)),
+    )

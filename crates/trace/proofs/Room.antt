@@ -12,8 +12,9 @@ use lib.Seq.{sets}
 use Rattle.number.proofs.Tests.{pick-true, pick-false}
 use Rattle.isa.specs.State.{stateLength}
 use Rattle.file.specs.declared.Opened.{Opened}
-use Rattle.file.specs.File.{openedAs, startOf}
-use Rattle.text.specs.Lines.{stepsLine}
+use Rattle.file.specs.declared.FileRefusal.{FileRefusal}
+use Rattle.file.specs.File.{fileRefusalNumber, openedAs, startOf}
+use Rattle.text.specs.Lines.{stepsLine, refusedLine}
 use Rattle.text.proofs.Pieces.{Stored, stored-append}
 use Rattle.trace.specs.declared.Printed.{Printed}
 use Rattle.trace.specs.declared.Printed.the-variants.{Text, NoRoom}
@@ -24,7 +25,7 @@ use Rattle.trace.proofs.Calls.{linesTo}
 pub accepted-stored : (file state out₀ out₁ out₂ out₃ : List ℕ) (n a b r : ℕ) → state ≡ ended file n
     → out₁ ≡ sets out₀ 0 (linesTo file n) → a ≡ length (linesTo file n)
     → Stored out₁ a (zLines (startOf file) state) out₂ b → Stored out₂ b (stepsLine n) out₃ r
-    → (out₃ ≡ sets out₀ 0 (acceptedText file n)) × (r ≡ length (acceptedText file n))
+    → (state ≡ ended file n) × (out₃ ≡ sets out₀ 0 (acceptedText file n)) × (r ≡ length (acceptedText file n))
 accepted-stored file state out₀ out₁ out₂ out₃ n a b r s e l rows last =
     let first : Stored out₀ 0 (linesTo file n) out₁ a = (e, l ∙ sym (zero-add (length (linesTo file n)))) in
     let second : Stored out₁ a (zLines (startOf file) (ended file n)) out₂ b =
@@ -36,7 +37,15 @@ accepted-stored file state out₀ out₁ out₂ out₃ n a b r s e l rows last =
     let all : Stored out₀ 0 (acceptedText file n) out₃ r =
     stored-append out₀ out₂ out₃ 0 b r (linesTo file n ++ zLines (startOf file) (ended file n)) (stepsLine n) both last
     in
-    (all .0, all .1 ∙ zero-add (length (acceptedText file n)))
+    (s, all .0, all .1 ∙ zero-add (length (acceptedText file n)))
+
+-- a refusal's line
+pub refused-stored : (out out′ : List ℕ) (number r : ℕ) (k : FileRefusal) → number ≡ fileRefusalNumber k → Stored out 0 (refusedLine number) out′ r
+    → (out′ ≡ sets out 0 (refusedLine (fileRefusalNumber k))) × (r ≡ length (refusedLine (fileRefusalNumber k)))
+refused-stored out out′ number r k e (w, l) = (
+  w ∙ ap (λ (m : ℕ). sets out 0 (refusedLine m)) e,
+  l ∙ zero-add (length (refusedLine number)) ∙ ap (λ (m : ℕ). length (refusedLine m)) e,
+)
 
 -- ---- printing
 
@@ -60,8 +69,7 @@ module _ (file state out : List ℕ) where
   unfolding textOf endOf
   room e h o opened e₁ e₂ state′ out′ r s w l =
       let yes : hasRoom state out ≡ true = (λ t. eq-eqb (length state) stateLength e t && le-leb roomLength (length out) h t) in
-      let same : o ≡ openedAs file = sym e₂ ∙ e₁ in
-      (
+      let same : o ≡ openedAs file = sym e₂ ∙ e₁ in (
         s ∙ ap (endBy file state) same ∙ sym (pick-true _ _ yes),
         w ∙ ap (λ (x : Opened). sets out 0 (textBy file x)) same ∙ sym (pick-true _ _ yes),
         ap Text (l ∙ ap (λ (x : Opened). length (textBy file x)) same) ∙ sym (pick-true _ _ yes),

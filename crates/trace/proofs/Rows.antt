@@ -14,12 +14,13 @@ use lib.ListN.{length}
 use lib.Seq.{sets}
 use Rattle.number.specs.Bytes.{byteAt, table}
 use Rattle.number.proofs.Tests.{pick-true, pick-false, is-false, true-false, lt-or-le}
-use Rattle.number.proofs.Bytes.{getD-table, table-same}
+use Rattle.number.proofs.Bytes.{length-table, getD-table, table-same}
 use Rattle.isa.specs.State.{stateLength, zBase, rowBytes}
 use Rattle.file.specs.File.{all, startOf}
 use Rattle.file.proofs.Paddings.{all-at, all-true}
 use Rattle.text.specs.Lines.{zLine}
 use Rattle.text.proofs.Pieces.{Stored, stored-append}
+use Rattle.trace.proofs.Short.{z-short}
 use Rattle.trace.specs.Trace.{rowOf, differ, rowChanged, rowLine, rowLines, zLines}
 
 -- ---- two rows
@@ -74,6 +75,9 @@ module _ (file state before after : List ℕ) (r : ℕ) (h : r < 64)
 
   pub line-there : (t : Bool) → t ≡ differ before after → t ≡ true → zLine r after ≡ rowLine (startOf file) state r
   line-there t e f = ap (zLine r) a ∙ sym (pick-true _ _ (sym (changed t e) ∙ f))
+
+  pub line-fits : length (zLine r after) ≤ 152
+  line-fits = z-short r after h (ap length a ∙ length-table (λ k. byteAt state (1024 + r * 64 + k)) 0 64)
 
 pub row-kept : (out : List ℕ) (at : ℕ) (line : List ℕ) → [] ≡ line → Stored out at line out at × (at ≤ at + 152)
 row-kept out at line e = (subst (λ (xs : List ℕ). Stored out at xs out at) e (refl, sym (add-zero at)), omega arith)

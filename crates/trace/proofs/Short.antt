@@ -98,10 +98,15 @@ module _ (file : List ℕ) where
   accepted-fits n h =
       let steps : List ℕ = stepLines (calls file n) 0 (startOf file) in
       let changed : List ℕ = zLines (startOf file) (ended file n) in
-      omega
-      (arith, length-append steps changed, length-append (steps ++ changed) (stepsLine n),
-      lines-short (calls file n) 0 (startOf file) (omega (arith, length-calls file n)), length-calls file n,
-      rowLines-short (startOf file) (ended file n) 64 (omega arith), steps-short n (omega arith))
+      omega (
+        arith,
+        length-append steps changed,
+        length-append (steps ++ changed) (stepsLine n),
+        lines-short (calls file n) 0 (startOf file) (omega (arith, length-calls file n)),
+        length-calls file n,
+        rowLines-short (startOf file) (ended file n) 64 (omega arith),
+        steps-short n (omega arith),
+      )
 
   by-opening : (o : Opened) → openedAs file ≡ o → length (textBy file o) ≤ roomLength
   by-opening (Steps n) e = accepted-fits n (accepted-most file n e)

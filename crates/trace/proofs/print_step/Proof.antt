@@ -42,7 +42,7 @@ same-length-2 c = search needs
 
 -- src/lib.rt:44:1
 returns : tie.Need-returns
-returns c = step-printed (c .before .before .before .before .before .before .before .before .before .before .before .before .before .before .args .file .now) (c .before .before .before .before .before .before .before .before .before .before .before .before .before .before .args .state .now) (c .before .before .before .before .before .before .before .before .before .run-record .last .0) (c .before .before .before .before .before .before .before .before .before .before .before .before .before .before .args .out .now) (c .before .before .step-line .last .0) (c .before .before .before .before .before .before .before .before .before .before .before .before .before .before .args .at) (c .before .before .before .before .before .before .before .before .before .before .before .before .before .before .args .i) (c .before .before .before .before .before .before .before .before .before .before .before .before .before .before .args .n) (c .before .before .step-line .result) (c .before .before .before .before .before .before .before .before .before .before .before .before .before .before .pre .0) (c .before .before .before .before .before .before .before .before .before .before .before .before .before .before .pre .1) (c .before .before .before .before .before .before .before .before .before .run-record .result) (c .before .before .before .before .before .ran .given .0 .0) (c .before .before .before .before .before .ran .given .0 .1 .0) (c .before .before .before .before .before .before .before .before .before .run-record .ensures) (c .before .before .before .before .before .ran .given .1) (c .before .before .step-line .ensures)
+returns c = step-printed (c .before .before .before .before .before .before .before .before .before .before .before .before .before .before .args .file .now) (c .before .before .before .before .before .before .before .before .before .before .before .before .before .before .args .state .now) (c .before .before .before .before .before .before .before .before .before .run-record .last .1 .0) (c .before .before .before .before .before .before .before .before .before .before .before .before .before .before .args .out .now) (c .before .before .step-line .last .0) (c .before .before .before .before .before .before .before .before .before .before .before .before .before .before .args .at) (c .before .before .before .before .before .before .before .before .before .before .before .before .before .before .args .i) (c .before .before .before .before .before .before .before .before .before .before .before .before .before .before .args .n) (c .before .before .step-line .result) (c .before .before .before .before .before .before .before .before .before .before .before .before .before .before .pre .0) (c .before .before .before .before .before .before .before .before .before .before .before .before .before .before .pre .1) (c .before .before .before .before .before .before .before .before .before .run-record .result) (c .before .before .before .before .before .ran .given .0 .0) (c .before .before .before .before .before .ran .given .0 .1 .0) (c .before .before .before .before .before .before .before .before .before .run-record .ensures) (c .before .before .before .before .before .ran .given .1) (c .before .before .step-line .ensures)
 
 -- src/lib.rt:44:1
 same-length-3 : tie.Need-same-length-3

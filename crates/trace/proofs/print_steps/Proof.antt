@@ -1,7 +1,7 @@
 use borrow.Author.Needs.{needs}
 use Prim.Native.Nat.{_-_, _*_, _≤_}
 use native.Mathlib.Omega.{arith}
-use Rattle.trace.proofs.Calls.{Stepped, steps-none, steps-more, steps-all}
+use Rattle.trace.proofs.Calls.{Stepped, steps-none, steps-more, steps-length, steps-all}
 use Rattle.trace.proofs.print_steps.Statement.{statement}
 use Rattle.trace.proofs.print_steps.Tie as tie
 use Rattle.trace.proofs.print_steps.Reads as reads
@@ -32,15 +32,15 @@ loop-less c = search needs
 
 -- src/lib.rt:67:5
 loop-again : tie.Need-loop-again Inv-loop μ-loop
-loop-again c = (omega arith, omega (arith, c .before .before .before .before .print-step .ensures .1, c .before .before .before .before .before .before .before .before .loop .inv .1), steps-more (c .before .before .before .before .before .before .before .before .before .before .before .before .args .file .now) (c .before .before .before .before .before .before .before .before .before .before .before .before .args .out .now) (c .before .before .before .before .before .before .before .before .loop .state) (c .before .before .before .before .before .before .before .before .loop .out) (c .before .before .before .before .print-step .last .0) (c .before .before .before .before .print-step .last .1) (c .before .before .before .before .before .before .before .before .loop .i) (c .before .before .before .before .before .before .before .before .loop .at) (c .before .before .before .before .print-step .result) (c .before .before .before .before .before .before .before .before .loop .inv .2) (c .before .before .before .before .print-step .ensures .0 .0) (c .before .before .before .before .print-step .ensures .0 .1, c .before .before .before .before .print-step .ensures .0 .2))
+loop-again c = (omega arith, omega (arith, c .before .before .before .before .print-step .ensures .1, c .before .before .before .before .before .before .before .before .loop .inv .1), steps-more (c .before .before .before .before .before .before .before .before .before .before .before .before .args .file .now) (c .before .before .before .before .before .before .before .before .before .before .before .before .args .out .now) (c .before .before .before .before .before .before .before .before .loop .state) (c .before .before .before .before .before .before .before .before .loop .out) (c .before .before .before .before .print-step .last .1 .0) (c .before .before .before .before .print-step .last .1 .1 .0) (c .before .before .before .before .before .before .before .before .loop .i) (c .before .before .before .before .before .before .before .before .loop .at) (c .before .before .before .before .print-step .result) (c .before .before .before .before .before .before .before .before .loop .inv .2) (c .before .before .before .before .print-step .ensures .0 .0) (c .before .before .before .before .print-step .ensures .0 .1, c .before .before .before .before .print-step .ensures .0 .2))
 
 -- src/lib.rt:59:1
 same-length : tie.Need-same-length Inv-loop μ-loop
-same-length c = search needs
+same-length c = steps-length (c .before .before .before .before .before .args .file .now) (c .before .before .before .before .before .args .out .now) (c .before .before .before .before .before .args .state .now) (c .before .loop .state) (c .before .loop .out) (c .before .loop .i) (c .before .loop .at) (c .before .before .before .before .before .pre .1) (c .before .loop .inv .2) .0
 
 -- src/lib.rt:59:1
 same-length-2 : tie.Need-same-length-2 Inv-loop μ-loop
-same-length-2 c = search needs
+same-length-2 c = steps-length (c .before .before .before .before .before .args .file .now) (c .before .before .before .before .before .args .out .now) (c .before .before .before .before .before .args .state .now) (c .before .loop .state) (c .before .loop .out) (c .before .loop .i) (c .before .loop .at) (c .before .before .before .before .before .pre .1) (c .before .loop .inv .2) .1
 
 -- src/lib.rt:59:1
 returns : tie.Need-returns Inv-loop μ-loop
