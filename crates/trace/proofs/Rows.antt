@@ -1,21 +1,20 @@
 -- Rows of Z: their bytes, whether they differ, and their lines.
 -- Assumes nothing.
 use mathlib.Core.Path.{_≡_, refl, sym, ap, subst, _∙_}
-use mathlib.Core.Bool.{Bool, true, false, cond, not}
-use mathlib.Core.List.{List, [], _∷_, _++_}
+use mathlib.Core.Bool.{Bool, true, false, not}
+use mathlib.Core.List.{List, []}
 use mathlib.Core.Logic.{⊎-elim}
-use Prim.Native.Nat.{ℕ, zero, suc, _+_, _*_, _≤_, _<_}
+use Prim.Native.Nat.{ℕ, _+_, _*_, _≤_, _<_}
 use native.Mathlib.Nat.{add-zero, zero-add}
 use native.Mathlib.Numerals.{add-one}
 use native.Mathlib.Omega.{arith}
 use borrow.Author.Tests.{eq-eqb, ne-eqb}
 use lib.Dec.{eqb}
 use lib.ListN.{length}
-use lib.Seq.{sets}
 use Rattle.number.specs.Bytes.{byteAt, table}
 use Rattle.number.proofs.Tests.{pick-true, pick-false, is-false, true-false, lt-or-le}
 use Rattle.number.proofs.Bytes.{length-table, getD-table, table-same}
-use Rattle.isa.specs.State.{stateLength, zBase, rowBytes}
+use Rattle.isa.specs.State.{stateLength}
 use Rattle.file.specs.File.{all, startOf}
 use Rattle.file.proofs.Paddings.{all-at, all-true}
 use Rattle.text.specs.Lines.{zLine}

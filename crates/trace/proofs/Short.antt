@@ -1,9 +1,9 @@
 -- How long lines and texts are at most.
 -- Assumes nothing.
 use mathlib.Core.Path.{_≡_, refl}
-use mathlib.Core.Bool.{Bool, true, false, cond}
+use mathlib.Core.Bool.{Bool, cond}
 use mathlib.Core.List.{List, [], _∷_, _++_}
-use Prim.Native.Nat.{ℕ, zero, suc, _+_, _*_, _/_, _^_, _≤_, _<_}
+use Prim.Native.Nat.{ℕ, zero, suc, _+_, _*_, _^_, _≤_, _<_}
 use native.Mathlib.Nat.{div-le-self}
 use native.Mathlib.Omega.{arith}
 use lib.ListN.{length, length-append}
@@ -12,19 +12,18 @@ use Rattle.number.proofs.Bytes.{length-table}
 use Rattle.number.specs.Bytes.{byteAt}
 use Rattle.isa.specs.declared.Answer.{Answer}
 use Rattle.isa.specs.declared.Answer.the-variants.{Done}
-use Rattle.isa.specs.State.{lanesOf, zBase, rowBytes}
+use Rattle.isa.specs.State.{lanesOf}
 use Rattle.isa.specs.Effect.{Effect, sum, count, lanesOn}
 use Rattle.isa.specs.Call.{Call, effectOf}
 use Rattle.isa.specs.Answers.{Row, rowsAbove, firstOf, answerOf, hostNumber}
 use Rattle.isa.specs.Step.{stepped}
-use Rattle.file.specs.declared.FileRefusal.{FileRefusal}
 use Rattle.file.specs.declared.FileRefusal.the-variants.{Short, Contents, Padding}
 use Rattle.file.specs.declared.Opened.{Opened}
 use Rattle.file.specs.declared.Opened.the-variants.{Steps, Refused}
-use Rattle.file.specs.File.{fileRefusalNumber, openedAs, calls, startOf}
+use Rattle.file.specs.File.{openedAs, calls, startOf}
 use Rattle.file.proofs.Accepted.{accepted-most}
 use Rattle.file.proofs.Records.{length-calls}
-use Rattle.text.specs.Lines.{stepLine, zLine, stepsLine, refusedLine}
+use Rattle.text.specs.Lines.{stepLine, zLine, stepsLine}
 use Rattle.text.proofs.Lengths.{step-short, row-short, steps-short, file-short}
 use Rattle.trace.specs.Trace.{stepLines, rowOf, rowChanged, rowLine, rowLines, zLines, ended, textBy, textOf, roomLength, Fits}
 

@@ -1,6 +1,5 @@
 // A trace file run on a lent state, and its whole text in a lent buffer. Every function open to callers takes every argument.
 ghost use mathlib.Core.Path.{_≡_};
-ghost use mathlib.Core.Bool.{cond};
 ghost use Prim.Native.Nat.{_+_, _*_, _≤_, _<_};
 ghost use lib.ListN.{length};
 ghost use lib.Seq.{sets};
@@ -8,8 +7,8 @@ ghost use Rattle.number.specs.Bytes.{byteAt, table};
 ghost use Rattle.isa.specs.Answers.{answerOf};
 ghost use Rattle.isa.specs.Step.{stepped};
 ghost use Rattle.file.specs.File as File;
-ghost use Rattle.text.specs.Lines.{stepLine, zLine};
-ghost use Rattle.trace.specs.Trace.{differ, rowOf, rowLine, zLines, stepLines, ended, acceptedText, textOf, endOf, printedAs, stateAfter, outAfter, ranAs, ranState};
+ghost use Rattle.text.specs.Lines.{stepLine};
+ghost use Rattle.trace.specs.Trace.{differ, rowLine, zLines, stepLines, ended, acceptedText, printedAs, stateAfter, outAfter, ranAs, ranState};
 
 // What printing answers: the length of the text, or that the state or the buffer has another length than it takes.
 pub enum Printed {

@@ -6,12 +6,6 @@ use Rattle.trace.proofs.Room.{refused-stored, other-state, short-out, r
 use borrow.Author.Needs.{needs}
 use Rattle.trace.proofs.print.Statement.{statement}
 use Rattle.trace.proofs.print.Tie as tie
-use Rattle.trace.proofs.print.Reads as reads
-use Rattle.trace.proofs.print.Lts as lts
-use Rattle.file.proofs.file_refusal_number.Reads as file-refusal-number-reads
-use Rattle.file.proofs.open.Reads as open-reads
-use Rattle.text.proofs.refused_line.Reads as refused-line-reads
-use Rattle.trace.proofs.print_accepted.Reads as print-accepted-reads
 
 -- src/lib.rt:148:9
 returns : tie.Need-returns

@@ -4,12 +4,6 @@ use Rattle.trace.proofs.Room.{accepted-stored}
 use borrow.Author.Needs.{needs}
 use Rattle.trace.proofs.print_accepted.Statement.{statement}
 use Rattle.trace.proofs.print_accepted.Tie as tie
-use Rattle.trace.proofs.print_accepted.Reads as reads
-use Rattle.trace.proofs.print_accepted.Lts as lts
-use Rattle.file.proofs.load_state.Reads as load-state-reads
-use Rattle.text.proofs.steps_line.Reads as steps-line-reads
-use Rattle.trace.proofs.print_rows.Reads as print-rows-reads
-use Rattle.trace.proofs.print_steps.Reads as print-steps-reads
 
 -- src/lib.rt:135:5
 load-state-requires : tie.Need-load-state-requires

@@ -6,11 +6,6 @@ use Rattle.trace.proofs.Rows.{line-none, line-there, line-fits, row-kep
 use borrow.Author.Needs.{needs}
 use Rattle.trace.proofs.print_row.Statement.{statement}
 use Rattle.trace.proofs.print_row.Tie as tie
-use Rattle.trace.proofs.print_row.Reads as reads
-use Rattle.trace.proofs.print_row.Lts as lts
-use Rattle.text.proofs.z_line.Reads as z-line-reads
-use Rattle.trace.proofs.row_at.Reads as row-at-reads
-use Rattle.trace.proofs.rows_differ.Reads as rows-differ-reads
 
 -- src/lib.rt:105:44
 mul-row-at : tie.Need-mul-row-at

@@ -11,9 +11,6 @@ use Rattle.trace.specs.Trace.{rowLines}
 use Rattle.trace.proofs.Rows.{rows-more, rows-all}
 use Rattle.trace.proofs.print_rows.Statement.{statement}
 use Rattle.trace.proofs.print_rows.Tie as tie
-use Rattle.trace.proofs.print_rows.Reads as reads
-use Rattle.trace.proofs.print_rows.Lts as lts
-use Rattle.trace.proofs.print_row.Reads as print-row-reads
 
 abbrev Inv-loop : tie.InvT-loop
 Inv-loop file state out₀ from at₀ row₀ out at row = (row ≤ 64) × (at ≤ from + 152 * row) × Stored out₀ from (rowLines (startOf file) state row) out at

@@ -3,10 +3,6 @@ use Rattle.trace.proofs.Line.{step-printed}
 use borrow.Author.Needs.{needs}
 use Rattle.trace.proofs.print_step.Statement.{statement}
 use Rattle.trace.proofs.print_step.Tie as tie
-use Rattle.trace.proofs.print_step.Reads as reads
-use Rattle.trace.proofs.print_step.Lts as lts
-use Rattle.text.proofs.step_line.Reads as step-line-reads
-use Rattle.trace.proofs.run_record.Reads as run-record-reads
 
 -- src/lib.rt:51:9
 run-record-requires : tie.Need-run-record-requires

@@ -4,9 +4,6 @@ use native.Mathlib.Omega.{arith}
 use Rattle.trace.proofs.Calls.{Stepped, steps-none, steps-more, steps-length, steps-all}
 use Rattle.trace.proofs.print_steps.Statement.{statement}
 use Rattle.trace.proofs.print_steps.Tie as tie
-use Rattle.trace.proofs.print_steps.Reads as reads
-use Rattle.trace.proofs.print_steps.Lts as lts
-use Rattle.trace.proofs.print_step.Reads as print-step-reads
 
 abbrev Inv-loop : tie.InvT-loop
 Inv-loop file state₀ out₀ n at₀ i₀ state out at i = (i ≤ n) × (at ≤ 55 * i) × Stepped file out₀ i state out at

@@ -8,9 +8,6 @@ use native.Mathlib.Omega.{arith}
 use mathlib.Core.Path.{_≡_, refl}
 use Rattle.trace.proofs.row_at.Statement.{statement}
 use Rattle.trace.proofs.row_at.Tie as tie
-use Rattle.trace.proofs.row_at.Reads as reads
-use Rattle.trace.proofs.row_at.Lts as lts
-use Rattle.number.proofs.get8.Reads as get8-reads
 
 abbrev Inv-loop : tie.InvT-loop
 Inv-loop s at out₀ k₀ out k = (k ≤ 64) × (length out ≡ 64) × Filled 0 (λ j. byteAt s (at + j)) out k

@@ -5,8 +5,6 @@ use native.Mathlib.Omega.{arith}
 use Rattle.trace.proofs.Rows.{Same, same-more, differ-at, differ-not}
 use Rattle.trace.proofs.rows_differ.Statement.{statement}
 use Rattle.trace.proofs.rows_differ.Tie as tie
-use Rattle.trace.proofs.rows_differ.Reads as reads
-use Rattle.trace.proofs.rows_differ.Lts as lts
 
 abbrev Inv-loop : tie.InvT-loop
 Inv-loop a b k₀ k = (k ≤ 64) × Same a b k

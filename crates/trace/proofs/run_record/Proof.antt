@@ -2,10 +2,6 @@ use Rattle.trace.proofs.Reading.{record-run, record-none}
 use borrow.Author.Needs.{needs}
 use Rattle.trace.proofs.run_record.Statement.{statement}
 use Rattle.trace.proofs.run_record.Tie as tie
-use Rattle.trace.proofs.run_record.Reads as reads
-use Rattle.trace.proofs.run_record.Lts as lts
-use Rattle.amx.proofs.step.Reads as step-reads
-use Rattle.file.proofs.read_record.Reads as read-record-reads
 
 -- src/lib.rt:33:9
 read-record-requires : tie.Need-read-record-requires
