@@ -57,7 +57,7 @@ unfolding AllSmall
 first-small [] d t l = l
 first-small (r ∷ rs) d (h, t) l = either (λ (a : Answer). hostNumber a < 2 ^ 64) (r .applies) h (first-small rs d t l)
 
-pub answer-number : (n : ℕ) (c : Call) → hostNumber (answerOf n c) < 2 ^ 64
+answer-number : (n : ℕ) (c : Call) → hostNumber (answerOf n c) < 2 ^ 64
 unfolding answerOf AllSmall
 answer-number n c =
     first-small (rowsAbove n c) (Done (lanesOn (effectOf c)))

@@ -10,7 +10,7 @@ ghost use Rattle.file.specs.File as File;
 ghost use Rattle.text.specs.Lines.{stepLine};
 ghost use Rattle.trace.specs.Trace.{differ, rowLine, zLines, stepLines, ended, acceptedText, printedAs, stateAfter, outAfter, ranAs, ranState};
 
-// What printing answers: the length of the text, or that the state or the buffer has another length than it takes.
+// What printing answers: the length of the text, or that the state has not 5,120 bytes or the buffer too few for every text.
 pub enum Printed {
     Text(usize),
     NoRoom,
