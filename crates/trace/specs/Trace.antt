@@ -1,0 +1,128 @@
+-- A trace file run on a lent state, and the text that is printed of it.
+-- Assumes nothing.
+use mathlib.Core.Path.{_≡_}
+use mathlib.Core.Bool.{Bool, cond, not, _&&_}
+use mathlib.Core.List.{List, [], _++_, _∷_}
+use Prim.Native.Nat.{ℕ, zero, suc, _+_, _*_, _≤_}
+use lib.Dec.{eqb, leb, ltb}
+use lib.ListN.{length}
+use lib.Seq.{sets}
+use Rattle.number.specs.Bytes.{byteAt, table}
+use Rattle.isa.specs.State.{stateLength, zBase, rows, rowBytes}
+use Rattle.isa.specs.Call.{Call}
+use Rattle.isa.specs.Answers.{answerOf}
+use Rattle.isa.specs.Step.{stepped, run, answers}
+use Rattle.isa.specs.Swap.{swaps, Allowed}
+use Rattle.file.specs.declared.Opened.{Opened}
+use Rattle.file.specs.declared.Opened.the-variants.{Steps, Refused}
+use Rattle.file.specs.declared.Cursor.{Cursor}
+use Rattle.file.specs.File.{fileRefusalNumber, mostSteps, all, openedAs, callAt, calls, startOf, cursor}
+use Rattle.text.specs.Lines.{stepLine, zLine, stepsLine, refusedLine}
+use Rattle.trace.specs.declared.Printed.{Printed}
+use Rattle.trace.specs.declared.Printed.the-variants.{Text, NoRoom}
+use Rattle.trace.specs.declared.Ran.{Ran}
+use Rattle.trace.specs.declared.Ran.the-variants.{Answered, End}
+
+-- ---- lines
+
+-- the lines of calls, one for each, from place i on: "each call gets it as the last one left it"
+unfoldable pub stepLines : List Call → ℕ → List ℕ → List ℕ
+stepLines [] i s = []
+stepLines (c ∷ cs) i s = stepLine i (answerOf (length s) c) ++ stepLines cs (suc i) (stepped c s)
+
+-- the 64 bytes of Z row r
+abbrev pub rowOf : List ℕ → ℕ → List ℕ
+rowOf s r = table (λ k. byteAt s (zBase + r * rowBytes + k)) 0 rowBytes
+
+-- whether two rows differ in a byte
+unfoldable pub differ : List ℕ → List ℕ → Bool
+differ a b = not (all (λ k. eqb (byteAt a k) (byteAt b k)) rowBytes)
+
+abbrev pub rowChanged : List ℕ → List ℕ → ℕ → Bool
+rowChanged start end r = differ (rowOf start r) (rowOf end r)
+
+-- the line of row r, where it has one
+abbrev pub rowLine : List ℕ → List ℕ → ℕ → List ℕ
+rowLine start end r = cond (rowChanged start end r) (zLine r (rowOf end r)) []
+
+-- the lines of the first n rows, ascending
+abbrev pub rowLines : List ℕ → List ℕ → ℕ → List ℕ
+rowLines start end zero = []
+rowLines start end (suc n) = rowLines start end n ++ rowLine start end n
+
+-- "One z line for each row that differs from the start, ascending"
+abbrev pub zLines : List ℕ → List ℕ → List ℕ
+zLines start end = rowLines start end rows
+
+-- ---- a file
+
+-- the state after n steps of a file
+abbrev pub ended : List ℕ → ℕ → List ℕ
+ended file n = run (calls file n) (startOf file)
+
+-- "then `steps` and n"
+abbrev pub acceptedText : List ℕ → ℕ → List ℕ
+acceptedText file n = stepLines (calls file n) 0 (startOf file) ++ zLines (startOf file) (ended file n) ++ stepsLine n
+
+-- "a refused file gives only `file refused 6` or its like"
+abbrev pub textBy : List ℕ → Opened → List ℕ
+textBy file (Steps n) = acceptedText file n
+textBy file (Refused r) = refusedLine (fileRefusalNumber r)
+
+unfoldable pub textOf : List ℕ → List ℕ
+textOf file = textBy file (openedAs file)
+
+-- the state that is left: a refused file runs no step
+abbrev pub endBy : List ℕ → List ℕ → Opened → List ℕ
+endBy file state (Steps n) = ended file n
+endBy file state (Refused r) = state
+
+unfoldable pub endOf : List ℕ → List ℕ → List ℕ
+endOf file state = endBy file state (openedAs file)
+
+-- ---- printing
+
+-- bytes in which every text fits
+abbrev pub roomLength : ℕ
+roomLength = 131072
+
+-- whether a state and a buffer have the lengths that printing asks for
+abbrev pub hasRoom : List ℕ → List ℕ → Bool
+hasRoom state out = eqb (length state) stateLength && leb roomLength (length out)
+
+-- what printing answers: the length of the text, or that there is no room
+abbrev pub printedAs : List ℕ → List ℕ → List ℕ → Printed
+printedAs file state out = cond (hasRoom state out) (Text (length (textOf file))) NoRoom
+
+-- the state and the buffer after printing
+abbrev pub stateAfter : List ℕ → List ℕ → List ℕ → List ℕ
+stateAfter file state out = cond (hasRoom state out) (endOf file state) state
+
+abbrev pub outAfter : List ℕ → List ℕ → List ℕ → List ℕ
+outAfter file state out = cond (hasRoom state out) (sets out 0 (textOf file)) out
+
+-- ---- one record
+
+-- whether a cursor is at a step
+abbrev pub atStep : Cursor → Bool
+atStep c = ltb (c .next) (c .end) && ltb (c .next) mostSteps
+
+-- what running the record at a cursor answers, on a state of n bytes, and the state after it
+abbrev pub ranAs : List ℕ → ℕ → Cursor → Ran
+ranAs file n c = cond (atStep c) (Answered (answerOf n (callAt file (c .next))) (cursor (c .next + 1) (c .end))) End
+
+abbrev pub ranState : List ℕ → List ℕ → Cursor → List ℕ
+ranState file state c = cond (atStep c) (stepped (callAt file (c .next)) state) state
+
+-- ---- what is proved of it
+
+-- no text is cut
+abbrev pub Fits : Type 0
+Fits = (file : List ℕ) → length (textOf file) ≤ roomLength
+
+-- "The steps of an accepted trace file are such a list": every chain of allowed swaps of them leaves the same state and the same answers
+abbrev pub FileRearranged : Type 0
+FileRearranged =
+    (file : List ℕ) (n : ℕ) → openedAs file ≡ Steps n → (chain : List ℕ) → Allowed stateLength chain (calls file n)
+    → (run (swaps chain (calls file n)) (startOf file) ≡ run (calls file n) (startOf file))
+    × (answers (swaps chain (calls file n)) (startOf file) ≡ swaps chain (answers (calls file n) (startOf file)))
