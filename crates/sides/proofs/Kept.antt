@@ -1,16 +1,16 @@
 -- What 32 bits keep of a term, by the parts that the code makes, and of the first terms of two sides.
 -- Assumes nothing.
-use mathlib.Core.Path.{_≡_, sym, ap, ap₂, _∙_, subst}
+use mathlib.Core.Path.{_≡_, refl, sym, ap, ap₂, _∙_, subst}
 use mathlib.Core.Bool.{Bool, true, false, cond}
 use mathlib.Core.List.{List}
 use mathlib.Core.Logic.{⊎-elim}
 use Prim.Native.Nat.{ℕ, zero, suc, _+_, _*_, _/_, _^_, _≤_, _<_}
-use native.Mathlib.Nat.{mul-le-mul, mod-eq-of-lt, zero-add}
+use native.Mathlib.Nat.{mul-le-mul, mod-eq-of-lt, zero-add, div-le-self}
 use native.Mathlib.Omega.{arith}
-use lib.Dec.{ltb}
-use lib.IntN.{ℤ, pos, negsuc, negℤ, _+ℤ_, _*ℤ_, *ℤ-comm}
+use lib.Dec.{T, ltb}
+use lib.IntN.{ℤ, pos, negsuc, negℤ, natAbs, _+ℤ_, _*ℤ_, *ℤ-comm}
 use lib.ListN.{getD}
-use lib.Signed.{mag}
+use lib.Signed.{mag, nonNeg}
 use mir.Syntax.{w32}
 use mir.Val.{SFits, toZ, ofZ}
 use mir.Facts.{toZ-ofZ}
@@ -140,3 +140,7 @@ kept-lanes n plus rounds s xs ys us vs ex ey =
 pub read-lanes : (n : ℕ) (how : SideForm) (bytes bits : List ℕ) (sign : Bool) → HoldsLanes n (signedBy how) bits (sideBy how bytes) → sign ≡ signedBy how
     → (k : ℕ) → k < n → k < 64 → getD (valuesOf sign bits) k (pos 0) ≡ getD (sideBy how bytes) k (pos 0)
 read-lanes n how bytes bits sign e s k l h = values-at sign bits k h ∙ ap (λ (b : Bool). read b 2 (getD bits k 0)) s ∙ e k l h
+
+-- a number of 32 bits that is shifted in an i64
+pub shifted-up : (n s : ℕ) (r : ℤ) → n < 2 ^ 32 → r ≡ pos n ≫ s → T (nonNeg r) × (natAbs r < 2 ^ 32) × (natAbs r ≡ n / 2 ^ s)
+shifted-up n s r h e = subst (λ (z : ℤ). T (nonNeg z) × (natAbs z < 2 ^ 32) × (natAbs z ≡ n / 2 ^ s)) (sym e) (tt, omega (arith, div-le-self n (2 ^ s)), refl)

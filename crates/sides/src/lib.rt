@@ -240,10 +240,11 @@ fn rounding32(rounds: bool) -> i32
     if rounds { 16_384i32 } else { 0 }
 }
 
+// Held in an i64 and shifted there; the compiler sees that 32 bits would do.
 fn shifted32(v: i32, s: u32) -> i32
     ensures { λ r. ⌜ r ≡ v ≫ (s % 32) ⌝ }
 {
-    v >> (s % 32)
+    number::shifted(v as i64, s) as i32
 }
 
 // No more than 32768 times 65535.
@@ -317,7 +318,7 @@ fn unsigned_moved(rounds: bool, s: u32, v: u32) -> u32
     requires { ⌜ v ≤ 4294836225 ⌝ }
     ensures { λ r. ⌜ r ≡ (v + cond rounds 16384 0) / 2 ^ (s % 32) ⌝ }
 {
-    (v + unsigned_rounding(rounds)) >> (s % 32)
+    number::shifted((v + unsigned_rounding(rounds)) as i64, s) as u32
 }
 
 fn unsigned_term(rounds: bool, s: u32, x: u16, y: u16) -> i32
