@@ -21,7 +21,7 @@ use Rattle.number.proofs.Range.{kept-same, mag-signed, mag-add}
 use Rattle.number.proofs.Tests.{lt-or-le, pick-true, pick-false}
 use Rattle.sides.specs.Sides.{sideBy, termOf, keptTerms, valuesOf, signedBy, HoldsLanes}
 use Rattle.sides.specs.declared.SideForm.{SideForm}
-use Rattle.sides.proofs.Alu.{within, beyond}
+use Rattle.sides.proofs.FirstLanes.{within, beyond}
 
 -- ---- bounds
 

@@ -13,12 +13,12 @@ use lib.ListN.{length, getD, set, length-set}
 use lib.Seq.{getD-set-same, getD-set-other}
 use Rattle.number.specs.Bytes.{span, byteAt, number, table}
 use Rattle.number.specs.Integers.{signed, read}
-use Rattle.number.proofs.Bytes.{getD-table, table-same}
+use Rattle.number.proofs.Bytes.{getD-table}
 use Rattle.number.proofs.Range.{sub-lt, sub-le, signed-low}
 use Rattle.number.proofs.Slice.{one-byte, two-bytes, number-past}
 use Rattle.number.proofs.Fill.{Filled, fill-more}
 use Rattle.number.proofs.Tests.{lt-or-le, pick-true, pick-false}
-use Rattle.sides.specs.Sides.{laneOf, laneBytes, indexOf, sideOf, pairOf, valuesOf, Holds, HoldsLanes}
+use Rattle.sides.specs.Sides.{laneOf, laneBytes, indexOf, sideOf, pairOf, Holds, HoldsLanes}
 use Rattle.sides.proofs.Elements.{side-at}
 
 -- ---- a lane
@@ -147,11 +147,3 @@ module _ (wide sign : Bool) (bytes : List ℕ) (fixed : Bool) (lane : ℕ) (halv
       (ap (λ (ys : List ℕ). getD ys k 0) er ∙ getD-table (pairOf bytes) 0 0 64 k h ∙ ap (pairOf bytes) (zero-add k))
       (λ t. indexOf true false lane (d t) k)
       f w
-
-  -- all of it
-  pub side-values : HoldsLanes 64 (cond wide sign true) r (sideOf wide sign bytes fixed lane halved)
-      → valuesOf (cond wide sign true) r ≡ sideOf wide sign bytes fixed lane halved
-  unfolding sideOf valuesOf
-  side-values e =
-      table-same (λ k. read (cond wide sign true) 2 (getD r k 0)) (λ k. laneOf sign (laneBytes wide) bytes (indexOf wide fixed lane halved k)) 64
-      (λ k l. e k l l ∙ side-at wide sign bytes fixed lane halved k l)

@@ -1,5 +1,5 @@
 pub mod Elements
 pub mod Begun
 pub mod Lanes
-pub mod Alu
+pub mod FirstLanes
 pub mod Kept

@@ -35,12 +35,7 @@ sideBy how bytes = sideOf (how .wide) (how .sign) bytes (how .fixed) (how .lane)
 unfoldable pub termOf : Bool → Bool → ℕ → ℤ → ℤ → ℤ
 termOf plus rounds s x y = (cond plus (x +ℤ y) (x *ℤ y) +ℤ cond rounds (pos 16384) (pos 0)) ≫ s
 
--- the first n of 64 terms; the others 0
-unfoldable pub termsOf : ℕ → Bool → Bool → ℕ → List ℤ → List ℤ → List ℤ
-termsOf n plus rounds s xs ys =
-    table (λ k. cond (ltb k n) (termOf plus rounds s (getD xs k (pos 0)) (getD ys k (pos 0))) (pos 0)) 0 64
-
--- the same, of each term what 32 bits keep
+-- of the first n of 64 terms, what 32 bits keep; the others 0
 unfoldable pub keptTerms : ℕ → Bool → Bool → ℕ → List ℤ → List ℤ → List ℤ
 keptTerms n plus rounds s xs ys =
     table (λ k. cond (ltb k n) (kept 4 (termOf plus rounds s (getD xs k (pos 0)) (getD ys k (pos 0)))) (pos 0)) 0 64

@@ -8,7 +8,7 @@ ghost use lib.ListN.{getD};
 ghost use lib.Signed.{mag};
 ghost use Rattle.number.specs.Bytes.{table};
 ghost use Rattle.number.specs.Integers.{signed, read, kept, _≫_};
-ghost use Rattle.sides.specs.Sides.{laneOf, laneBytes, sideOf, sideBy, termOf, termsOf, keptTerms, pairOf, valuesOf, signedBy, Holds, HoldsLanes};
+ghost use Rattle.sides.specs.Sides.{laneOf, laneBytes, sideOf, sideBy, termOf, keptTerms, pairOf, valuesOf, signedBy, Holds, HoldsLanes};
 
 // How 64 bytes make a side: lanes of two bytes or of one, signed or not; one lane for all, or each lane of two bytes twice, where the other side
 // is narrower.
@@ -156,80 +156,6 @@ fn signed_by(how: SideForm) -> bool
     ensures { λ r. ⌜ r ≡ signedBy how ⌝ }
 {
     if how.wide { how.sign } else { true }
-}
-
-fn values(bits: &[u16; 64], sign: bool) -> [i32; 64]
-    ensures { λ r. ⌜ r ≡ valuesOf sign (now (bits .entry)) ⌝ }
-{
-    let mut out = [0i32; 64];
-    for i in 0..64 {
-        out[i] = number::read16(sign, bits[i]);
-    }
-    out
-}
-
-pub fn side(
-    bytes: &[u8; 64],
-    wide: bool,
-    sign: bool,
-    fixed: bool,
-    lane: usize,
-    halved: bool,
-) -> [i32; 64]
-    ensures { λ r. ⌜ r ≡ sideOf wide sign (now (bytes .entry)) fixed lane halved ⌝ }
-{
-    let how = SideForm {
-        wide: wide,
-        sign: sign,
-        fixed: fixed,
-        lane: lane,
-        halved: halved,
-    };
-    let bits = side16(bytes, how, 64);
-    values(&bits, signed_by(how))
-}
-
-// ---- terms
-
-fn combined(plus: bool, x: i32, y: i32) -> i64
-    ensures { λ r. ⌜ (r ≡ cond plus (x +ℤ y) (x *ℤ y)) × (mag r ≤ 2 ^ 62) ⌝ }
-{
-    if plus {
-        number::sum(x, y)
-    } else {
-        number::product(x, y)
-    }
-}
-
-fn rounding(rounds: bool) -> i64
-    ensures { λ r. ⌜ (r ≡ cond rounds (pos 16384) (pos 0)) × (mag r ≤ 16384) ⌝ }
-{
-    if rounds { 16_384 } else { 0 }
-}
-
-fn term(plus: bool, rounds: bool, s: u32, x: i32, y: i32) -> i64
-    ensures { λ r. ⌜ r ≡ termOf plus rounds (s % 32) x y ⌝ }
-{
-    number::shifted(combined(plus, x, y) + rounding(rounds), s)
-}
-
-// The terms of the first n lanes of two sides, shifted by s modulo 32; the others are 0.
-pub fn terms(
-    n: usize,
-    plus: bool,
-    rounds: bool,
-    s: u32,
-    xs: &[i32; 64],
-    ys: &[i32; 64],
-) -> [i64; 64]
-    ensures { λ r. ⌜ r ≡ termsOf n plus rounds (s % 32) (now (xs .entry)) (now (ys .entry)) ⌝ }
-{
-    let mut out = [0i64; 64];
-    let m = at_most_64(n);
-    for i in 0..m {
-        out[i] = term(plus, rounds, s, xs[i], ys[i]);
-    }
-    out
 }
 
 // ---- what 32 bits keep of the terms: with what rounding adds, a sum and a product fit an i32, and a product of two unsigned numbers a u32

@@ -4,7 +4,7 @@ use native.Mathlib.Nat.{not-suc-le-zero}
 use mathlib.Core.Path.{_≡_, refl}
 use native.Mathlib.Omega.{arith}
 use Rattle.number.proofs.Fill.{Filled, fill-more}
-use Rattle.sides.proofs.Alu.{inside}
+use Rattle.sides.proofs.FirstLanes.{inside}
 use borrow.Author.Needs.{needs}
 use Rattle.sides.proofs.filled.Statement.{statement}
 use Rattle.sides.proofs.filled.Tie as tie

@@ -12,9 +12,6 @@ use Rattle.number.proofs.Range.{widened}
 use borrow.Author.Needs.{needs}
 use Rattle.sides.proofs.shifted32.Statement.{statement}
 use Rattle.sides.proofs.shifted32.Tie as tie
-use Rattle.sides.proofs.shifted32.Reads as reads
-use Rattle.sides.proofs.shifted32.Lts as lts
-use Rattle.number.proofs.shifted.Reads as shifted-reads
 
 -- src/lib.rt:247:21
 cast-shifted : tie.Need-cast-shifted

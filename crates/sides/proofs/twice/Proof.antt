@@ -5,7 +5,7 @@ use mathlib.Core.Path.{_≡_, refl}
 use native.Mathlib.Omega.{arith}
 use Rattle.number.proofs.Fill.{Filled}
 use Rattle.sides.proofs.Lanes.{twice-more}
-use Rattle.sides.proofs.Alu.{inside}
+use Rattle.sides.proofs.FirstLanes.{inside}
 use borrow.Author.Needs.{needs}
 use Rattle.sides.proofs.twice.Statement.{statement}
 use Rattle.sides.proofs.twice.Tie as tie

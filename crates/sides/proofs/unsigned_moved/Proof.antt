@@ -9,10 +9,6 @@ use Rattle.number.specs.Integers.{_≫_}
 use Rattle.sides.proofs.Kept.{shifted-up}
 use Rattle.sides.proofs.unsigned_moved.Statement.{statement}
 use Rattle.sides.proofs.unsigned_moved.Tie as tie
-use Rattle.sides.proofs.unsigned_moved.Reads as reads
-use Rattle.sides.proofs.unsigned_moved.Lts as lts
-use Rattle.number.proofs.shifted.Reads as shifted-reads
-use Rattle.sides.proofs.unsigned_rounding.Reads as unsigned-rounding-reads
 
 -- src/lib.rt:321:26
 unsigned-rounding-requires : tie.Need-unsigned-rounding-requires
