@@ -46,8 +46,8 @@ fn fill(fd: i32, buffer: &mut [u8]) -> Got
     Got::Bytes(n)
 }
 
-// The file's bytes, as many as the buffer holds: more than the longest accepted file has, so that a longer one is refused by its length. A file that cannot be
-// read is named on standard error.
+// The file's bytes, as many as the buffer holds. Those are more than the longest accepted file has: what is read of a longer one is refused by its length,
+// as the file is (specs/Cut). A file that cannot be read is named on standard error.
 fn read_file(path: &[u8], buffer: &mut [u8]) -> Got
     requires { ⌜ stepAt mostSteps < length (now buffer) ⌝ }
     ensures { λ r. ⌜ Within r (length (now (buffer .exit))) ⌝ }
