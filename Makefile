@@ -1,10 +1,11 @@
-# make run   the numbers at the edges, checked against the meaning
+# make run   a stored trace, printed; and the numbers at the edges, checked against the meaning
 # make test  the gate: every crate proved from nothing, every must-fail edit refused
 # make bench the proved unit against a C version, in one run (needs a C compiler; no part of the gate)
 .PHONY: run test bench
 
 run:
-	rt check isa
+	rt check amx_trace
+	target/bin/amx_trace crates/traces/data/product.trace
 	@sed -n '/^edges =/,/^ *∷ \[\]/s/^ *-- /proved: /p' crates/isa/specs/Edges.antt
 
 test:

@@ -1,0 +1,298 @@
+#!/usr/bin/env python3
+"""The stored traces and the text that each must print.
+
+A second source: both instructions, the answers and the trace file are written here from the scope paper alone, and share nothing with the crates.
+Run from the top of the repository, it writes data/, args and stdout of the programs crates/amx_trace and crates/traces anew.
+"""
+import pathlib
+import random
+import struct
+
+STATE, MAC16, VECINT = 5120, 14, 18
+
+
+def bits(op, low, count):
+    return op >> low & (1 << count) - 1
+
+
+def number(data, width, lane, signed):
+    size = width // 8
+    return int.from_bytes(data[size * lane:size * lane + size], "little", signed=bool(signed))
+
+
+def clamp(n, width, signed):
+    low = -(1 << width - 1) if signed else 0
+    return max(low, min(n, low + (1 << width) - 1))
+
+
+def load(state, base, offset):
+    return bytes(state[base + (offset + i) % 512] for i in range(64))
+
+
+def store(state, row, width, lane, n):
+    size = width // 8
+    at = 1024 + 64 * row + size * lane
+    state[at:at + size] = (n % (1 << width)).to_bytes(size, "little")
+
+
+def z_row(state, row):
+    return state[1024 + 64 * row:1088 + 64 * row]
+
+
+# ---- lanes
+
+def both_enable(mode, n, k, lanes):
+    """Whether lane k is on, in the enable modes that both instructions have: 0, 2 and 3."""
+    if mode == 0:
+        return n == 0 or n in (1, 2) and k % 2 == n % 2
+    return n == 0 or (k < n if mode == 2 else k >= lanes - n)
+
+
+def mac16_enable(mode, n, k):
+    return k == n if mode == 1 else both_enable(mode, n, k, 32)
+
+
+def vecint_enable(mode, n, k, lanes):
+    if mode < 4:
+        return mode == 1 or mode == 0 and n in (3, 4, 5) or both_enable(mode, n, k, lanes)
+    return mode < 6 and n > 0 and both_enable(mode - 2, n, k, lanes)
+
+
+# ---- mac16
+
+def factors(state, base, offset, is_i8):
+    data = load(state, base, offset)
+    return [number(data[2 * i:], 8 if is_i8 else 16, 0, True) for i in range(32)]
+
+
+def mac16(state, op):
+    """Runs a done step and gives the number of its enabled lanes."""
+    x = factors(state, 0, bits(op, 10, 9), bits(op, 61, 1))
+    y = factors(state, 512, bits(op, 0, 9), bits(op, 60, 1))
+    x_on = [i for i in range(32) if mac16_enable(bits(op, 46, 2), bits(op, 41, 5), i)]
+    y_on = [j for j in range(32) if mac16_enable(bits(op, 37, 2), bits(op, 32, 5), j)]
+    skip_x, skip_y, skip_z, z = bits(op, 29, 1), bits(op, 28, 1), bits(op, 27, 1), bits(op, 20, 6)
+    if bits(op, 63, 1):
+        places = [(i, i, z, 16, i) for i in x_on]
+    elif bits(op, 62, 1):
+        places = [(i, j, 2 * j + i % 2, 32, i // 2) for j in y_on for i in x_on]
+    else:
+        places = [(i, j, 2 * j + z % 2, 16, i) for j in y_on for i in x_on]
+    for i, j, row, width, lane in places:
+        value = 0 if skip_x and skip_y else x[i] if skip_y else y[j] if skip_x else x[i] * y[j]
+        old = 0 if skip_z else number(z_row(state, row), width, lane, True)
+        store(state, row, width, lane, old + (value >> bits(op, 55, 5)))
+    return len(places)
+
+
+# ---- vecint
+
+WIDTHS = {3: (16, 16, 32), 10: (8, 8, 32), 11: (8, 8, 16), 12: (8, 16, 32), 13: (16, 8, 32)}
+SATURATIONS = {3: (32, 16), 4: (32, 32), 9: (8, 8), 10: (32, 8), 11: (16, 8)}
+
+
+def result(mode, x, y, z, s):
+    if mode in (5, 6):
+        term = x * y + 16384 >> 15
+        return clamp(z + term if mode == 5 else z - term, 16, True)
+    if mode == 10:
+        return x * y >> s
+    if mode in (11, 12):
+        return z + ((x if mode == 11 else y) >> s)
+    term = (x * y if mode < 2 else x + y) >> s
+    return z + term if mode in (0, 2) else z - term
+
+
+def reduced(op, z, saturation):
+    s = bits(op, 58, 5)
+    z = z + (bits(op, 29, 1) << s >> 1) >> s
+    return clamp(z, saturation, bits(op, 26, 1)) if bits(op, 30, 1) else z
+
+
+def vector_4(state, op, row, enable, value, zero):
+    width, saturation = SATURATIONS.get(bits(op, 42, 4), (16, 16))
+    on = [k for k in range(512 // width) if vecint_enable(enable, value, k, 512 // width)]
+    for k in on:
+        z = number(z_row(state, row), width, k, bits(op, 63, 1))
+        store(state, row, width, k, 0 if zero else reduced(op, z, saturation))
+    return len(on)
+
+
+def vector(state, op, mode, row, x, y, x_lane, y_lane, enable, value, zero):
+    """One vector: x and y are 64 bytes each; x_lane and y_lane, where given, serve every lane."""
+    x_width, y_width, z_width = (16, 16, 16) if mode in (5, 6) else WIDTHS.get(bits(op, 42, 4), (16, 16, 16))
+    narrow = min(x_width, y_width)
+    r = z_width // narrow
+    on = [k for k in range(512 // narrow) if vecint_enable(enable, value, k * narrow // x_width, 512 // x_width)]
+    for k in on:
+        at, lane = row - row % r + k % r, k // r
+        a = number(x, x_width, k * narrow // x_width if x_lane is None else x_lane, bits(op, 63, 1))
+        b = number(y, y_width, k * narrow // y_width if y_lane is None else y_lane % (512 // y_width), bits(op, 26, 1))
+        z = number(z_row(state, at), z_width, lane, True)
+        store(state, at, z_width, lane, 0 if zero else result(mode, a, b, z, bits(op, 58, 5)))
+    return len(on)
+
+
+def vecint(state, generation, op):
+    mode, z = bits(op, 47, 6), bits(op, 20, 6)
+    if generation == 2 and bits(op, 31, 1):
+        stride = 16 if bits(op, 25, 1) else 32
+        rows, enable, value, cast = range(z % stride, 64, stride), 0, 0, bits(op, 32, 3)
+    else:
+        rows, enable, value = [z], bits(op, 38, 3), bits(op, 32, 6)
+        cast = {3: 1, 4: 4, 5: 5}.get(value, 0) if enable == 0 else 0
+    x_lane = 0 if cast == 6 else None
+    y_lane = 0 if cast == 7 else value if enable == 1 else None
+    count = 0
+    for v, row in enumerate(rows):
+        if mode == 4:
+            count += vector_4(state, op, row, enable, value, cast == 1)
+            continue
+        x = bytes(64) if cast == 4 else load(state, 0, bits(op, 10, 9) + (0 if cast in (2, 6) else 64 * v))
+        y = bytes(64) if cast == 5 else load(state, 512, bits(op, 0, 9) + (0 if cast in (3, 7) else 64 * v))
+        count += vector(state, op, mode, row, x, y, x_lane, y_lane, enable, value, cast == 1)
+    return count
+
+
+# ---- the step and the trace
+
+def step(state, instruction, generation, op):
+    if generation not in (1, 2):
+        return "refused 2"
+    if instruction not in (MAC16, VECINT):
+        return "refused 3"
+    if instruction == MAC16:
+        return f"done {mac16(state, op)}"
+    mode = 0 if bits(op, 53, 1) else bits(op, 47, 6)
+    if bits(op, 54, 3):
+        return "no-op 1"
+    if mode in (7, 8, 9) or mode > 12:
+        return "no-op 2"
+    if mode in (10, 11, 12) and generation == 1:
+        return "no-op 3"
+    if bits(op, 53, 1) or mode != 4 and bits(op, 27, 4):
+        return "refused 4"
+    return f"done {vecint(state, generation, op)}"
+
+
+def text(file):
+    if len(file) < 28:
+        return "file refused 5\n"
+    fields = struct.unpack_from("<IHHIIHHII", file)
+    n = fields[8] // 16
+    if fields != (2, 1, 0, 28, STATE, 2, 0, 5148, 16 * n) or n > 2048 or len(file) != 5148 + 16 * n:
+        return "file refused 6\n"
+    records = [struct.unpack_from("<BB6sQ", file, 5148 + 16 * i) for i in range(n)]
+    if any(any(r[2]) for r in records):
+        return "file refused 7\n"
+    start = file[28:5148]
+    state = bytearray(start)
+    lines = [f"step {i} {step(state, r[0], r[1], r[3])}" for i, r in enumerate(records)]
+    lines += [f"z {r} {z_row(state, r).hex()}" for r in range(64) if z_row(state, r) != z_row(start, r)]
+    return "\n".join(lines + [f"steps {n}"]) + "\n"
+
+
+def trace(state, steps):
+    head = struct.pack("<IHHIIHHII", 2, 1, 0, 28, STATE, 2, 0, 5148, 16 * len(steps))
+    return head + bytes(state) + b"".join(struct.pack("<BB6xQ", *s) for s in steps)
+
+
+# ---- the traces
+
+PLACES = {
+    MAC16: dict(vector=63, wide=62, shift=55, x_mode=46, x_value=41, y_mode=37, y_value=32, z=20, x=10, y=0),
+    VECINT: dict(x_signed=63, shift=58, alu=47, widths=42, mode=38, value=32, several=31, saturate=30, rounding=29, y_signed=26, z=20, x=10, y=0),
+}
+
+
+def call(instruction, generation, **fields):
+    return instruction, generation, sum(n << PLACES[instruction][name] for name, n in fields.items())
+
+
+def product():
+    """A times B, plus a bias, halved and clamped to 8 bits. Each step of the product takes a row of B from X and a column of A from Y."""
+    a = [[1, -2, 3, 4], [5, 6, -7, 8], [9, 10, 11, 12], [-13, 14, 15, 16]]
+    b = [[2, 0, 1, -1], [0, 3, 1, 4], [5, -1, 1, 2], [1, 1, -6, 20]]
+    state = bytearray(STATE)
+    for k in range(4):
+        struct.pack_into("<4h", state, 64 * k, *b[k])
+        struct.pack_into("<4h", state, 512 + 64 * k, *(row[k] for row in a))
+    struct.pack_into("<4h", state, 256, 100, 200, -100, 0)
+    bias = dict(alu=11, mode=4, value=4, x=256, x_signed=1)
+    halve = dict(alu=4, mode=4, value=4, x_signed=1, shift=1, rounding=1, saturate=1, y_signed=1, widths=11)
+    steps = [call(MAC16, 1, x_mode=2, x_value=4, y_mode=2, y_value=4, x=64 * k, y=64 * k) for k in range(4)]
+    steps += [call(VECINT, 1, **bias)]  # M1 has no such mode
+    steps += [call(VECINT, 2, z=2 * j, **bias) for j in range(4)]
+    steps += [(VECINT, 2, 1 << 53)]  # an indexed load
+    return trace(state, steps + [call(VECINT, 2, z=2 * j, **halve) for j in range(4)])
+
+
+def answers(rng):
+    """Every answer that a step of a trace can have, in each form and mode, on random bytes."""
+    steps = [call(MAC16, 1, vector=1, z=63, x=480, y=500), call(MAC16, 2, x_mode=2, x_value=3, y_value=1, z=7), call(MAC16, 1, wide=1, shift=3)]
+    steps += [call(MAC16, 1, vector=1, x_value=3), (MAC16, 0, 0), (MAC16, 3, 0), (13, 1, 0), (VECINT, 0, 0), (19, 0, 0), (VECINT, 3, 1 << 54)]
+    steps += [call(VECINT, 1, alu=m, x_signed=1, y_signed=1, z=m, x=16 * m) for m in range(7)]
+    steps += [call(VECINT, 2, alu=m, z=m, y=16 * m, shift=2) for m in (10, 11, 12)]
+    steps += [call(VECINT, 1, widths=w, z=22) for w in (3, 10, 11, 12, 13)]
+    steps += [call(VECINT, 2, several=1, z=37, value=c) for c in range(8)]
+    steps += [(VECINT, 1, 1 << b) for b in (53, 54, 55, 56)] + [call(VECINT, 2, alu=m) for m in (7, 8, 9, 13, 63)]
+    steps += [call(VECINT, 1, alu=m) for m in (10, 11, 12)] + [(VECINT, 2, 1 << b) for b in (27, 28, 29, 30)]
+    return trace(rng.randbytes(STATE), steps)
+
+
+def any_step(rng):
+    """Random bits, but seldom a step that the table turns away, and seldom one that forgets the old Z."""
+    op, generation = rng.getrandbits(64), 1 + rng.getrandbits(1)
+    if rng.randrange(4) == 0:
+        return MAC16, generation, op & ~(1 << 27) if rng.randrange(8) else op
+    if rng.randrange(16) == 0:
+        return VECINT, generation, op
+    alu = rng.choice((0, 1, 2, 3, 0, 1, 2, 3, 5, 6, 10, 11, 12, 4))
+    op = op & ~(1023 << 47) | alu << 47
+    return VECINT, 2 if alu >= 10 else generation, op if alu == 4 else op & ~(15 << 27)
+
+
+def damaged():
+    """Files that are refused: by one change to a file of three steps, or by their length."""
+    good = trace(bytes(STATE), [call(MAC16, 1, vector=1)] * 3)
+
+    def changed(at, new, size=1):
+        return good[:at] + new.to_bytes(size, "little") + good[at + size:]
+
+    yield from (("short_0", b""), ("short_27", good[:27]), ("contents_alone", good[:28]), ("count_1", changed(0, 1)), ("count_high_byte", changed(3, 1)))
+    for entry, at, offset, length in (("first", 4, 28, STATE), ("second", 16, 5148, 48)):
+        yield from ((f"{entry}_kind", changed(at, 3)), (f"{entry}_zero", changed(at + 2, 1)), (f"{entry}_offset", changed(at + 4, offset + 1, 4)))
+        yield from ((f"{entry}_length_short", changed(at + 8, length - 1, 4)), (f"{entry}_length_long", changed(at + 8, length + 1, 4)))
+    yield from (("second_length_step_short", changed(24, 32)), ("second_length_step_long", changed(24, 64)))
+    yield from (("byte_short", good[:-1]), ("byte_long", good + bytes(1)), ("step_long", good + bytes(16)))
+    yield from (("padding_first", changed(5150, 1)), ("padding_last", changed(5187, 128)), ("padding_and_byte_long", changed(5150, 1) + bytes(1)))
+    yield "most_steps_and_a_byte", trace(bytes(STATE), [(0, 0, 0)] * 2048) + bytes(1)
+    yield "too_many_steps", trace(bytes(STATE), [(0, 0, 0)] * 2049)
+
+
+def stored():
+    rng = random.Random(14)
+    yield "product", product()
+    yield "no_steps", trace(rng.randbytes(STATE), [])
+    there, back = call(MAC16, 1, vector=1, z=9), call(VECINT, 1, alu=1, x_signed=1, y_signed=1, z=9)
+    yield "changed_back", trace(rng.randbytes(STATE), [there, back])
+    yield "answers", answers(rng)
+    yield "most_steps", trace(rng.randbytes(STATE), [any_step(rng) for _ in range(2048)])
+    yield from damaged()
+
+
+def write(crate, traces, named, unread):
+    """A program's files, arguments and output: for each file its name, where it is printed, and its text. A file that cannot be read has none."""
+    home = pathlib.Path("crates", crate)
+    for name, file in traces:
+        (home / "data" / name).write_bytes(file)
+    texts = [(name, text(file)) for name, file in traces] + [(name, "") for name in unread]
+    (home / "args").write_text("".join(name + "\n" for name, _ in texts))
+    (home / "stdout").write_text("".join((name + "\n" if named else "") + lines for name, lines in texts))
+
+
+if __name__ == "__main__":
+    sample = bytearray(STATE)
+    sample[0], sample[512] = 3, 2
+    write("amx_trace", [("sample.trace", trace(sample, [(MAC16, 1, 1 << 63), (VECINT, 1, 1 << 54)]))], False, [])
+    write("traces", [(name + ".trace", file) for name, file in stored()], True, ["missing.trace", "."])
