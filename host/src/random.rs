@@ -84,10 +84,10 @@ impl Random {
         if self.once_in(3) {
             operand = put(operand, 55, 59, self.pick(&[0, 1, 15, 31]));
         }
-        if self.once_in(3) {
+        if self.once_in(2) {
             operand = put(put(operand, 46, 47, 0), 41, 45, self.below(4));
         }
-        if self.once_in(3) {
+        if self.once_in(2) {
             operand = put(put(operand, 37, 38, 0), 32, 36, self.below(4));
         }
         operand
@@ -115,10 +115,7 @@ impl Random {
             operand = put(operand, 42, 45, self.pick(&[3, 4, 9, 10, 11, 12, 13]));
         }
         if self.once_in(2) {
-            operand = put(operand, 32, 37, self.below(8));
-        }
-        if self.once_in(3) {
-            operand = put(operand, 38, 40, 0);
+            operand = put(put(operand, 38, 40, 0), 32, 37, self.below(7));
         }
         if self.once_in(3) {
             operand = put(operand, 58, 62, self.pick(&[0, 1, 15, 31]));

@@ -1,0 +1,201 @@
+//! Steps one by one and in sequences, and normal operands.
+use crate::case::{Case, agree, difference, proved, second};
+use amx::{Answer, Call, normal, random::Random, random::put, reference};
+use std::collections::BTreeMap;
+
+const LENGTH: usize = 5_120;
+
+/// How often each answer came.
+#[derive(Default)]
+pub struct Tally(BTreeMap<String, u64>);
+
+impl Tally {
+    fn count(&mut self, number: u64) {
+        let name = match Answer::from_number(number) {
+            Some(Answer::Done(0)) => "done 0".to_owned(),
+            Some(Answer::Done(_)) => "done".to_owned(),
+            Some(other) => other.to_string(),
+            None => "no answer".to_owned(),
+        };
+        *self.0.entry(name).or_default() += 1;
+    }
+
+    pub fn text(&self) -> String {
+        self.0.iter().map(|(name, count)| format!("{name}: {count}")).collect::<Vec<_>>().join(", ")
+    }
+}
+
+/// Two states that go through the same steps, one by each program.
+struct Pair {
+    proved: Vec<u8>,
+    second: Vec<u8>,
+}
+
+impl Pair {
+    fn new(bytes: Vec<u8>) -> Self {
+        Pair { second: bytes.clone(), proved: bytes }
+    }
+
+    fn step(&mut self, before: &mut Vec<u8>, call: Call, tally: &mut Tally) -> Result<(), String> {
+        before.clone_from(&self.proved);
+        let answers = (proved(&mut self.proved, call), second(&mut self.second, call));
+        tally.count(answers.0);
+        if answers.0 == answers.1 && self.proved == self.second {
+            return Ok(());
+        }
+        agree("the two programs", &Case { state: before.clone(), calls: vec![call] }, proved, second)
+    }
+}
+
+/// Every step of a list on states that are drawn anew now and then. The number of steps.
+fn each(random: &mut Random, calls: impl Iterator<Item = Call>, tally: &mut Tally) -> Result<u64, String> {
+    let mut pair = Pair::new(random.bytes(LENGTH));
+    let (mut before, mut count) = (Vec::new(), 0);
+    for call in calls {
+        if count % 48 == 0 {
+            pair = Pair::new(random.bytes(LENGTH));
+        }
+        pair.step(&mut before, call, tally)?;
+        count += 1;
+    }
+    Ok(count)
+}
+
+/// The fields of both instructions swept, alone and in the pairs and triples that matter to each other.
+pub fn swept(random: &mut Random, tally: &mut Tally) -> Result<u64, String> {
+    let mac16 = sweep_mac16(random);
+    let vecint = sweep_vecint(random);
+    each(random, mac16.into_iter().chain(vecint), tally)
+}
+
+/// The other bits of a swept operand: offsets, rows, signs and shifts.
+fn rest(random: &mut Random, mask: u64) -> u64 {
+    random.bits() & mask
+}
+
+fn sweep_mac16(random: &mut Random) -> Vec<Call> {
+    let mut operands = Vec::new();
+    // the forms: vector, matrix 16, matrix 32
+    for form in [1 << 63, 0, 1 << 62] {
+        for (x, y) in (0..128).flat_map(|x| (0..128).map(move |y| (x, y))) {
+            // a vector step ignores the Y mask
+            if form >> 63 == 0 || y % 16 == 0 {
+                operands
+                    .push(form | x << 41 | y << 32 | rest(random, 0x3fff_ffff_ffff & !(127 << 41 | 127 << 32)) | random.below(128) << 55);
+            }
+        }
+        for (sides, shift) in (0..32).flat_map(|sides| (0..32).map(move |shift| (sides, shift))) {
+            operands.push(form | (sides & 3) << 60 | (sides >> 2) << 27 | shift << 55 | rest(random, 0x3f7_fdff));
+        }
+        for (row, offset) in (0..64).flat_map(|row| (0..512).step_by(11).map(move |offset| (row, offset))) {
+            operands.push(form | row << 20 | offset << 10 | (511 - offset));
+        }
+        operands.extend((0..64).map(|bit| form ^ 1 << bit));
+    }
+    operands.into_iter().flat_map(|operand| [1, 2].map(|generation| Call::new(14, generation, operand))).collect()
+}
+
+fn sweep_vecint(random: &mut Random) -> Vec<Call> {
+    const MODES: [u64; 10] = [0, 1, 2, 3, 4, 5, 6, 10, 11, 12];
+    const WIDTHS: [u64; 8] = [0, 3, 4, 9, 10, 11, 12, 13];
+    // signs, rows, offsets and what is ignored; bits 27..30 by mode
+    let other = |random: &mut Random, mode| rest(random, if mode == 4 { 0x8200_0200_7fff_ffff } else { 0x8200_0200_07ff_ffff });
+    let mut operands = Vec::new();
+    // every ALU mode, with every width, vectors and broadcast mode
+    for (mode, widths) in (0..64).flat_map(|mode| (0..16).map(move |widths| (mode, widths))) {
+        for several in 0..4 {
+            operands.push(
+                mode << 47 | widths << 42 | (several & 1) << 31 | put(other(random, mode), 25, 25, several >> 1) | random.below(8) << 32,
+            );
+        }
+    }
+    for mode in MODES {
+        for (widths, value) in WIDTHS.into_iter().flat_map(|widths| (0..512).map(move |value| (widths, value))) {
+            operands.push(mode << 47 | widths << 42 | value << 32 | random.below(32) << 58 | other(random, mode));
+        }
+        for (widths, shift) in WIDTHS.into_iter().flat_map(|widths| (0..32).map(move |shift| (widths, shift))) {
+            for signs in 0..4 {
+                operands.push(put(mode << 47 | widths << 42 | shift << 58 | other(random, mode), 63, 63, signs & 1) ^ signs >> 1 << 26);
+            }
+        }
+        for (widths, row) in WIDTHS.into_iter().flat_map(|widths| (0..64).map(move |row| (widths, row))) {
+            operands.push(put(mode << 47 | widths << 42 | other(random, mode), 20, 25, row) | random.below(2) << 31);
+            operands.push(put(mode << 47 | widths << 42 | other(random, mode), 20, 25, row) | 1 << 31 | random.below(8) << 32);
+        }
+        // shuffles, the indexed load and the reserved bits, and every bit turned
+        for bits in 0..256 {
+            operands.push(mode << 47 | (bits & 15) << 27 | (bits >> 4) << 53);
+        }
+        operands.extend((0..64).flat_map(|bit| [mode << 47 ^ 1 << bit, mode << 47 ^ 1 << 31 ^ 1 << bit]));
+    }
+    // ALU mode 4: all its switches
+    for (switches, shift) in (0..16).flat_map(|switches| (0..32).map(move |shift| (switches, shift))) {
+        for widths in 0..16 {
+            let switched = (switches & 1) << 63 | (switches >> 1 & 3) << 29 | (switches >> 3) << 26;
+            operands.push(4 << 47 | switched | shift << 58 | widths << 42 | rest(random, 0x3f7_fdff));
+        }
+    }
+    operands.into_iter().flat_map(|operand| [1, 2].map(|generation| Call::new(18, generation, operand))).collect()
+}
+
+/// Random calls, unknown instructions and generations and wrong lengths among them.
+pub fn random(random: &mut Random, steps: u64, tally: &mut Tally) -> Result<u64, String> {
+    let mut calls = random.clone();
+    random.bits();
+    each(random, (0..steps).map(|_| calls.call()), tally)?;
+    let wrong_lengths = steps / 40;
+    let mut before = Vec::new();
+    for _ in 0..wrong_lengths {
+        let length = match random.below(4) {
+            0 => random.pick(&[0, 1, 1_024, 5_119, 5_121, 5_128, 10_240]),
+            _ => random.below(6_000) as usize,
+        };
+        Pair::new(random.bytes(length)).step(&mut before, random.call(), tally)?;
+    }
+    Ok(steps + wrong_lengths)
+}
+
+/// Lists of calls, each on one state from its start to its end.
+pub fn sequences(random: &mut Random, lists: u64) -> Result<u64, String> {
+    let mut count = 0;
+    for _ in 0..lists {
+        let length = if random.once_in(32) { 0 } else { 1 + random.below(120) };
+        let case = Case { state: random.bytes(LENGTH), calls: (0..length).map(|_| random.call()).collect() };
+        agree("sequences of calls", &case, proved, second)?;
+        count += length;
+    }
+    Ok(count)
+}
+
+/// Normal operands: the reference's, of the same answer and effect, and normal themselves.
+pub fn normals(random: &mut Random, count: u64) -> Result<u64, String> {
+    for n in 0..count {
+        let state = if n % 64 == 0 { vec![0; LENGTH] } else { random.bytes(LENGTH) };
+        let case = Case { state, calls: vec![random.call()] };
+        if let Some(fault) = normal_fault(&case) {
+            let smallest = case.shrink(&|case| normal_fault(case).is_some());
+            let fault = normal_fault(&smallest).unwrap_or(fault);
+            return Err(format!("{fault}; the smallest case found:\n{}\n", smallest.describe()));
+        }
+    }
+    Ok(count)
+}
+
+fn normal_fault(case: &Case) -> Option<String> {
+    let [call] = case.calls[..] else { return None };
+    let given = normal(call);
+    let expected = reference::normal(call.instruction, call.generation, call.operand);
+    if given.map_err(Answer::number) != expected {
+        return Some(format!("the normal operand is {given:x?}, and by the reference {expected:x?}"));
+    }
+    let Ok(operand) = given else { return None };
+    let again = Call { operand, ..call };
+    if normal(again) != Ok(operand) {
+        return Some(format!("the normal operand {operand:#x} is not normal"));
+    }
+    let normalised = Case { state: case.state.clone(), calls: vec![again] };
+    let (plain, normal) = (case.run(proved), normalised.run(proved));
+    let same = plain == normal && plain.answers[0] < 65_536;
+    (!same)
+        .then(|| format!("the normal operand {operand:#x} does something else:\n{}", difference(["as given", "normal"], [&plain, &normal])))
+}
