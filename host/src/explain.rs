@@ -183,7 +183,7 @@ fn widths(mode: u64, number: u64) -> &'static str {
 
 /// The Z lanes that a call enables, as text: a line for each row that has any, `#` for an enabled lane and `.` for one that is not.
 ///
-/// The places are the [`reference`]'s; the count in the first line is the proved step's answer.
+/// The places are the [`mod@reference`]'s; the count in the first line is the proved step's answer.
 ///
 /// ```
 /// use amx::{Call, Generation, Mac16, lane_grid};
