@@ -50,10 +50,17 @@ fn ignores(call: Call, bit: u64) -> bool {
     normal(Call { operand: call.operand | bit, ..call }).is_ok_and(|normal| normal & bit == 0)
 }
 
-/// The numbers of the bits that are set.
+/// The numbers of the bits that are set, runs of them as `low..high`.
 fn numbers(bits: u64) -> String {
-    let all: Vec<String> = (0..64).filter(|n| bits >> n & 1 == 1).map(|n| n.to_string()).collect();
-    format!("{} {}", if all.len() == 1 { "bit" } else { "bits" }, all.join(", "))
+    let set = |n: u32| n < 64 && bits >> n & 1 == 1;
+    let starts = (0..64).filter(|&n| set(n) && (n == 0 || !set(n - 1)));
+    let runs: Vec<String> = starts
+        .map(|low| match (low..64).take_while(|&n| set(n)).count() as u32 {
+            1 => low.to_string(),
+            length => format!("{low}..{}", low + length - 1),
+        })
+        .collect();
+    format!("{} {}", if bits.count_ones() == 1 { "bit" } else { "bits" }, runs.join(", "))
 }
 
 impl fmt::Display for Explanation {
@@ -97,6 +104,7 @@ impl Explanation {
             "enable_value" => Some(vecint_mask(get("enable_mode"), value)),
             "broadcast_mode" => Some(broadcast(value).to_owned()),
             "alu_mode" => Some(operation(value).to_owned()),
+            "skip_z" => Some(format!("the lane becomes {}", mac16_operation(get("skip_x"), get("skip_y"), value))),
             "lane_widths" => Some(widths(get("alu_mode"), value).to_owned()),
             _ => None,
         }
@@ -147,6 +155,19 @@ fn broadcast(mode: u64) -> &'static str {
     }
 }
 
+fn mac16_operation(skip_x: u64, skip_y: u64, skip_z: u64) -> &'static str {
+    match (skip_x, skip_y, skip_z) {
+        (0, 0, 0) => "z + ((x*y) >> s)",
+        (0, 0, _) => "(x*y) >> s",
+        (0, _, 0) => "z + (x >> s)",
+        (0, _, _) => "x >> s",
+        (_, 0, 0) => "z + (y >> s)",
+        (_, 0, _) => "y >> s",
+        (_, _, 0) => "z",
+        _ => "0",
+    }
+}
+
 fn operation(mode: u64) -> &'static str {
     match mode {
         0 => "z + ((x*y) >> s)",
@@ -165,12 +186,12 @@ fn operation(mode: u64) -> &'static str {
 
 fn widths(mode: u64, number: u64) -> &'static str {
     match (mode, number) {
-        (4, 3) => "Z 32 bits, clamped to 16",
-        (4, 4) => "Z 32 bits, clamped to 32",
-        (4, 9) => "Z 8 bits, clamped to 8",
-        (4, 10) => "Z 32 bits, clamped to 8",
-        (4, 11) => "Z 16 bits, clamped to 8",
-        (4, _) => "Z 16 bits, clamped to 16",
+        (4, 3) => "Z 32 bits, saturation 16",
+        (4, 4) => "Z 32 bits, saturation 32",
+        (4, 9) => "Z 8 bits, saturation 8",
+        (4, 10) => "Z 32 bits, saturation 8",
+        (4, 11) => "Z 16 bits, saturation 8",
+        (4, _) => "Z 16 bits, saturation 16",
         (5 | 6, _) => "X 16, Y 16, Z 16 bits",
         (_, 3) => "X 16, Y 16, Z 32 bits",
         (_, 10) => "X 8, Y 8, Z 32 bits",

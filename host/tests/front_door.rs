@@ -149,13 +149,13 @@ fn an_operand_is_explained() {
     let text = said(&["explain", "18", "2", "0x8200_0000_8230_0040"]);
     for line in [
         "vecint on M2, operand 0x8200000082300040\n",
-        "  bit 63       x_signed         1    X is signed\n",
+        "  bit 63       x_signed         1    X is signed (1) or unsigned (0)\n",
         "  bits 47..52  mode             0    ALU mode: z + ((x*y) >> s)\n",
         "  bits 32..34  broadcast_mode   0    broadcast mode: X and Y of each vector\n",
         "  bit 25       four             1    four vectors (1) or two (0)\n",
         "  bits 20..24  z_row            3    Z row of the first vector (bit 24 ignored)\n",
         "ignored and set: bit 57\n",
-        "ignored here: bits 9, 19, 24, 35, 36, 37, 38, 39, 40, 41, 46, 57\n",
+        "ignored here: bits 9, 19, 24, 35..41, 46, 57\n",
         "normal operand 0x8000000082300040\n",
         "answer: done 128 lanes\n",
     ] {

@@ -68,80 +68,82 @@ pub fn swept(random: &mut Random, tally: &mut Tally) -> Result<u64, String> {
     each(random, mac16.into_iter().chain(vecint), tally)
 }
 
-/// The other bits of a swept operand: offsets, rows, signs and shifts.
-fn rest(random: &mut Random, mask: u64) -> u64 {
-    random.bits() & mask
+/// Z row and the offsets, and nothing that is ignored.
+const PLACES: u64 = 0x3f7_fdff;
+
+/// Both generations of each operand.
+fn on_both(instruction: u64, operands: Vec<u64>) -> Vec<Call> {
+    operands.into_iter().flat_map(|operand| [1, 2].map(|generation| Call::new(instruction, generation, operand))).collect()
+}
+
+/// Every item with every number below n.
+fn pairs(items: impl IntoIterator<Item = u64>, n: u64) -> impl Iterator<Item = (u64, u64)> {
+    items.into_iter().flat_map(move |item| (0..n).map(move |number| (item, number)))
 }
 
 fn sweep_mac16(random: &mut Random) -> Vec<Call> {
     let mut operands = Vec::new();
     // the forms: vector, matrix 16, matrix 32
     for form in [1 << 63, 0, 1 << 62] {
-        for (x, y) in (0..128).flat_map(|x| (0..128).map(move |y| (x, y))) {
+        for (x, y) in pairs(0..128, 128) {
             // a vector step ignores the Y mask
             if form >> 63 == 0 || y % 16 == 0 {
-                operands
-                    .push(form | x << 41 | y << 32 | rest(random, 0x3fff_ffff_ffff & !(127 << 41 | 127 << 32)) | random.below(128) << 55);
+                let sides_and_shift = random.bits() & 0x7f << 55;
+                operands.push(form | sides_and_shift | x << 41 | y << 32 | random.bits() & (PLACES | 7 << 27 | 127 << 48));
             }
         }
-        for (sides, shift) in (0..32).flat_map(|sides| (0..32).map(move |shift| (sides, shift))) {
-            operands.push(form | (sides & 3) << 60 | (sides >> 2) << 27 | shift << 55 | rest(random, 0x3f7_fdff));
+        for (sides, shift) in pairs(0..32, 32) {
+            operands.push(form | (sides & 3) << 60 | (sides >> 2) << 27 | shift << 55 | random.bits() & PLACES);
         }
-        for (row, offset) in (0..64).flat_map(|row| (0..512).step_by(11).map(move |offset| (row, offset))) {
+        for (offset, row) in pairs((0..512).step_by(11), 64) {
             operands.push(form | row << 20 | offset << 10 | (511 - offset));
         }
         operands.extend((0..64).map(|bit| form ^ 1 << bit));
     }
-    operands.into_iter().flat_map(|operand| [1, 2].map(|generation| Call::new(14, generation, operand))).collect()
+    on_both(14, operands)
 }
 
 fn sweep_vecint(random: &mut Random) -> Vec<Call> {
     const MODES: [u64; 10] = [0, 1, 2, 3, 4, 5, 6, 10, 11, 12];
     const WIDTHS: [u64; 8] = [0, 3, 4, 9, 10, 11, 12, 13];
-    // signs, rows, offsets and what is ignored; bits 27..30 by mode
-    let other = |random: &mut Random, mode| rest(random, if mode == 4 { 0x8200_0200_7fff_ffff } else { 0x8200_0200_07ff_ffff });
+    // signs, places and some of what is ignored; in mode 4 its switches, and no shuffle in others
+    let other = |random: &mut Random, mode| random.bits() & if mode == 4 { 0x8200_0200_7fff_ffff } else { 0x8200_0200_07ff_ffff };
     let mut operands = Vec::new();
-    // every ALU mode, with every width, vectors and broadcast mode
-    for (mode, widths) in (0..64).flat_map(|mode| (0..16).map(move |widths| (mode, widths))) {
-        for several in 0..4 {
-            operands.push(
-                mode << 47 | widths << 42 | (several & 1) << 31 | put(other(random, mode), 25, 25, several >> 1) | random.below(8) << 32,
-            );
+    for (mode, widths) in pairs(0..64, 16) {
+        let form = mode << 47 | widths << 42;
+        operands.push(form | other(random, mode));
+        for (four, broadcast) in pairs(0..2, 8) {
+            operands.push(put(form | other(random, mode), 25, 25, four) | 1 << 31 | broadcast << 32);
+        }
+    }
+    for (mode, widths) in MODES.into_iter().flat_map(|mode| WIDTHS.map(|widths| (mode, widths))) {
+        let form = mode << 47 | widths << 42;
+        for value in 0..512 {
+            operands.push(form | value << 32 | random.below(32) << 58 | other(random, mode));
+        }
+        for (signs, shift) in pairs(0..4, 32) {
+            operands.push(put(put(form | shift << 58 | other(random, mode), 63, 63, signs & 1), 26, 26, signs >> 1));
+        }
+        for (several, row) in pairs(0..2, 64) {
+            operands.push(put(form | other(random, mode), 20, 25, row) | several << 31);
         }
     }
     for mode in MODES {
-        for (widths, value) in WIDTHS.into_iter().flat_map(|widths| (0..512).map(move |value| (widths, value))) {
-            operands.push(mode << 47 | widths << 42 | value << 32 | random.below(32) << 58 | other(random, mode));
-        }
-        for (widths, shift) in WIDTHS.into_iter().flat_map(|widths| (0..32).map(move |shift| (widths, shift))) {
-            for signs in 0..4 {
-                operands.push(put(mode << 47 | widths << 42 | shift << 58 | other(random, mode), 63, 63, signs & 1) ^ signs >> 1 << 26);
-            }
-        }
-        for (widths, row) in WIDTHS.into_iter().flat_map(|widths| (0..64).map(move |row| (widths, row))) {
-            operands.push(put(mode << 47 | widths << 42 | other(random, mode), 20, 25, row) | random.below(2) << 31);
-            operands.push(put(mode << 47 | widths << 42 | other(random, mode), 20, 25, row) | 1 << 31 | random.below(8) << 32);
-        }
         // shuffles, the indexed load and the reserved bits, and every bit turned
-        for bits in 0..256 {
-            operands.push(mode << 47 | (bits & 15) << 27 | (bits >> 4) << 53);
-        }
+        operands.extend((0..256).map(|bits| mode << 47 | (bits & 15) << 27 | (bits >> 4) << 53));
         operands.extend((0..64).flat_map(|bit| [mode << 47 ^ 1 << bit, mode << 47 ^ 1 << 31 ^ 1 << bit]));
     }
     // ALU mode 4: all its switches
-    for (switches, shift) in (0..16).flat_map(|switches| (0..32).map(move |shift| (switches, shift))) {
-        for widths in 0..16 {
-            let switched = (switches & 1) << 63 | (switches >> 1 & 3) << 29 | (switches >> 3) << 26;
-            operands.push(4 << 47 | switched | shift << 58 | widths << 42 | rest(random, 0x3f7_fdff));
-        }
+    for (switches, shift) in pairs(0..16, 32) {
+        let switched = (switches & 1) << 63 | (switches >> 1 & 3) << 29 | (switches >> 3) << 26;
+        operands.extend((0..16).map(|widths| 4 << 47 | switched | shift << 58 | widths << 42 | random.bits() & PLACES));
     }
-    operands.into_iter().flat_map(|operand| [1, 2].map(|generation| Call::new(18, generation, operand))).collect()
+    on_both(18, operands)
 }
 
 /// Random calls, unknown instructions and generations and wrong lengths among them.
 pub fn random(random: &mut Random, steps: u64, tally: &mut Tally) -> Result<u64, String> {
-    let mut calls = random.clone();
-    random.bits();
+    let mut calls = Random::new(random.bits());
     each(random, (0..steps).map(|_| calls.call()), tally)?;
     let wrong_lengths = steps / 40;
     let mut before = Vec::new();
