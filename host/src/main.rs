@@ -1,9 +1,10 @@
 //! The front door: steps as text, trace files, and operands explained.
 use amx::{Call, Trace, explain, lane_grid, text};
 use std::{
+    ffi::OsString,
     fs,
     io::{self, ErrorKind, Write},
-    path::{Path, PathBuf},
+    path::Path,
     process::ExitCode,
 };
 
@@ -125,14 +126,19 @@ fn run(file: &str) -> Result<Output, String> {
     })
 }
 
-/// Writes a file whole or not at all: under another name first.
+/// Writes a file whole or not at all: under another name first. What is no file (a pipe, a device) is written to as it is.
 fn write_whole(path: &Path, bytes: &[u8]) -> io::Result<()> {
+    if fs::metadata(path).is_ok_and(|there| !there.is_file()) {
+        return fs::write(path, bytes);
+    }
+    // a link stays a link
+    let path = fs::canonicalize(path).unwrap_or_else(|_| path.to_owned());
     let name = path.file_name().ok_or_else(|| io::Error::new(ErrorKind::InvalidInput, "expected the name of a file"))?;
-    let mut hidden = std::ffi::OsString::from(".");
-    hidden.push(name);
-    hidden.push(format!(".{}", std::process::id()));
-    let part: PathBuf = path.with_file_name(hidden);
-    let written = fs::write(&part, bytes).and_then(|()| fs::rename(&part, path));
+    let mut part = OsString::from(".");
+    part.push(name);
+    part.push(format!(".{}", std::process::id()));
+    let part = path.with_file_name(part);
+    let written = fs::write(&part, bytes).and_then(|()| fs::rename(&part, &path));
     if written.is_err() {
         let _ = fs::remove_file(&part);
     }

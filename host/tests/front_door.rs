@@ -112,12 +112,27 @@ fn an_error_writes_no_file_and_leaves_the_old_one() {
 
     let text = room.write("sample.txt", SAMPLE);
     refused(&["asm", name(&text), "-o", name(&room.0.join("none/trace"))], "none/trace: ");
-    refused(&["asm", name(&text), "-o", name(&room.0)], "");
-    refused(&["asm", name(&text), "-o", "/"], "expected the name of a file");
+    refused(&["asm", name(&text), "-o", name(&room.0)], "directory");
+    refused(&["asm", name(&text), "-o", ""], "expected the name of a file");
     refused(&["asm", name(&room.0.join("absent")), "-o", name(&trace)], "absent: ");
     let not_text = room.write("not.txt", [0xff, 0xfe]);
     refused(&["asm", name(&not_text), "-o", name(&trace)], "expected a text in UTF-8");
     assert_eq!(room.names(), ["not.txt", "sample.txt", "trace", "wrong.txt"]);
+}
+
+#[cfg(unix)]
+#[test]
+fn a_link_to_a_trace_stays_a_link_and_a_pipe_is_written_to() {
+    let room = Room::new("links");
+    let text = room.write("sample.txt", SAMPLE);
+    let (trace, link) = (room.write("trace", "old"), room.0.join("link"));
+    std::os::unix::fs::symlink(&trace, &link).unwrap();
+    said(&["asm", name(&text), "-o", name(&link)]);
+    assert!(fs::symlink_metadata(&link).unwrap().is_symlink());
+    assert_eq!(fs::read(&trace).unwrap().len(), 5_148 + 32);
+    let piped = amx(&["asm", name(&text), "-o", "/dev/stdout"]);
+    assert!(piped.status.success() && piped.stdout == fs::read(&trace).unwrap());
+    assert_eq!(room.names(), ["link", "sample.txt", "trace"]);
 }
 
 #[test]
