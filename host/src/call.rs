@@ -152,3 +152,28 @@ mod unit {
         unsafe { amx_step(state.as_mut_ptr(), state.len() as u64, instruction, generation, operand) }
     }
 }
+
+#[cfg(test)]
+mod tests {
+    use super::*;
+    use crate::{random::Random, reference};
+
+    #[test]
+    fn an_operand_that_is_not_done_is_handed_back_as_given() {
+        let mut random = Random::new(9);
+        for _ in 0..20_000 {
+            let Call { instruction, generation, operand } = random.call();
+            let expected = reference::normal(instruction, generation, operand).unwrap_or(operand);
+            assert_eq!(unit::normal_operand(instruction, generation, operand), expected);
+        }
+    }
+
+    #[test]
+    fn numbers_above_their_bytes_are_refused() {
+        let refusal = |instruction, generation| step_bytes(&mut [0; 5_120], instruction, generation, 0).to_string();
+        assert_eq!(refusal((1 << 32) + 14, 1), "refused 3");
+        assert_eq!(refusal(14, (1 << 32) + 1), "refused 2");
+        assert_eq!(refusal(15, 3), "refused 2");
+        assert_eq!(step_bytes(&mut [], 15, 3, 0).to_string(), "refused 1");
+    }
+}

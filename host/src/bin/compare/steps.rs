@@ -162,7 +162,8 @@ pub fn sequences(random: &mut Random, lists: u64) -> Result<u64, String> {
     let mut count = 0;
     for _ in 0..lists {
         let length = if random.once_in(32) { 0 } else { 1 + random.below(120) };
-        let case = Case { state: random.bytes(LENGTH), calls: (0..length).map(|_| random.call()).collect() };
+        let bytes = if random.once_in(32) { random.below(6_000) as usize } else { LENGTH };
+        let case = Case { state: random.bytes(bytes), calls: (0..length).map(|_| random.call()).collect() };
         agree("sequences of calls", &case, proved, second)?;
         count += length;
     }
