@@ -1,15 +1,28 @@
 # make run   a stored trace, printed; and the numbers at the edges, checked against the meaning
-# make test  the gate: every crate proved from nothing, every must-fail edit refused
-# make bench the proved unit against a C version, in one run (needs a C compiler; no part of the gate)
-.PHONY: run test bench
+# make host  the Rust package: built, tested, and the proved unit compared with a second program (needs cargo, no network)
+# make test  the gate: make host, then every crate proved from nothing, every must-fail edit refused
+# make bench the proved unit against a C version, then against the second program (needs a C compiler and cargo; no part of the gate)
+.PHONY: run host test bench
 
 run:
 	rt check amx_trace
 	target/bin/amx_trace crates/traces/data/product.trace
 	@sed -n '/^edges =/,/^ *∷ \[\]/s/^ *-- /proved: /p' crates/isa/specs/Edges.antt
 
+# cargo builds into host/target. COMPARE holds options of the comparison, say --seed 2 (host/target/release/compare --help has them).
+CARGO = cd host && cargo
+COMPARE =
+
+host:
+	rt staticlib amx
+	rt check amx_trace
+	$(CARGO) test --release --locked --offline --quiet
+	$(CARGO) run --release --locked --offline --quiet --bin compare -- --need-trace $(COMPARE)
+
+# rt ci empties target/ first, so it comes last
 test:
 	rt fmt --check
+	$(MAKE) host
 	rt ci
 
 B = target/bench
@@ -21,3 +34,4 @@ bench:
 	$(CC) -O3 -march=native -DNAME=unit_native -c bench/unit.c -o $B/native.o
 	$(CC) -O2 bench/main.c $B/baseline.o $B/native.o target/staticlib/libamx.a -o $B/bench
 	$B/bench
+	$(CARGO) run --release --locked --offline --quiet --bin speed

@@ -1,0 +1,123 @@
+use std::fmt;
+
+const NO_OP: u64 = 65_536;
+const REFUSED: u64 = 131_072;
+
+/// What a step answers. A no-op and a refusal leave every byte of the state as it was.
+///
+/// `{}` writes the words of a step line, `{:#}` the reason as well.
+///
+/// ```
+/// use amx::{Answer, Reason};
+/// let answer = Answer::NoOp(Reason::LaterMode);
+/// assert_eq!(answer.to_string(), "no-op 3");
+/// assert_eq!(format!("{answer:#}"), "no-op 3: ALU modes 10 to 12 are not on M1");
+/// ```
+#[derive(Clone, Copy, Debug, PartialEq, Eq, Hash)]
+pub enum Answer {
+    /// The step was done, with the number of Z lanes that it enabled; 0 is possible.
+    Done(u64),
+    /// The chip would do nothing either.
+    NoOp(Reason),
+    /// The unit does not cover the call.
+    Refused(Refusal),
+}
+
+/// Why a step is a no-op. The discriminant is the reason's number.
+#[derive(Clone, Copy, Debug, PartialEq, Eq, Hash)]
+pub enum Reason {
+    /// vecint, any of bits 54..56 set.
+    ReservedBits = 1,
+    /// vecint, ALU mode 7, 8, 9 or above 12.
+    ReservedMode = 2,
+    /// vecint, ALU mode 10, 11 or 12 on M1.
+    LaterMode = 3,
+}
+
+/// Why a call is refused. The discriminant is the refusal's number.
+#[derive(Clone, Copy, Debug, PartialEq, Eq, Hash)]
+pub enum Refusal {
+    /// The state is not of 5,120 bytes.
+    StateLength = 1,
+    /// The generation is not 1 or 2.
+    Generation = 2,
+    /// The instruction is not 14 or 18.
+    Instruction = 3,
+    /// vecint, an indexed load, or a shuffle outside ALU mode 4.
+    NotCovered = 4,
+}
+
+impl Answer {
+    /// The answer as the C interface gives it: the lane count, 65,536 + a reason, 131,072 + a refusal.
+    ///
+    /// ```
+    /// use amx::{Answer, Refusal};
+    /// assert_eq!(Answer::Refused(Refusal::NotCovered).number(), 131_076);
+    /// ```
+    pub fn number(self) -> u64 {
+        match self {
+            Answer::Done(lanes) => lanes,
+            Answer::NoOp(reason) => NO_OP + reason as u64,
+            Answer::Refused(refusal) => REFUSED + refusal as u64,
+        }
+    }
+
+    /// The way back from [`number`](Self::number); `None` where a number is no answer.
+    ///
+    /// ```
+    /// use amx::{Answer, Reason};
+    /// assert_eq!(Answer::from_number(65_537), Some(Answer::NoOp(Reason::ReservedBits)));
+    /// assert_eq!(Answer::from_number(65_536), None);
+    /// ```
+    pub fn from_number(number: u64) -> Option<Self> {
+        use {Reason::*, Refusal::*};
+        match number {
+            0..NO_OP => Some(Answer::Done(number)),
+            NO_OP..REFUSED => {
+                [ReservedBits, ReservedMode, LaterMode].into_iter().find(|&reason| reason as u64 == number - NO_OP).map(Answer::NoOp)
+            }
+            _ => [StateLength, Generation, Instruction, NotCovered]
+                .into_iter()
+                .find(|&refusal| refusal as u64 == number - REFUSED)
+                .map(Answer::Refused),
+        }
+    }
+
+    /// Whether the step was done.
+    pub fn is_done(self) -> bool {
+        matches!(self, Answer::Done(_))
+    }
+}
+
+impl fmt::Display for Answer {
+    fn fmt(&self, f: &mut fmt::Formatter) -> fmt::Result {
+        match self {
+            Answer::Done(lanes) => write!(f, "done {lanes}"),
+            Answer::NoOp(reason) if f.alternate() => write!(f, "no-op {}: {reason}", *reason as u8),
+            Answer::NoOp(reason) => write!(f, "no-op {}", *reason as u8),
+            Answer::Refused(refusal) if f.alternate() => write!(f, "refused {}: {refusal}", *refusal as u8),
+            Answer::Refused(refusal) => write!(f, "refused {}", *refusal as u8),
+        }
+    }
+}
+
+impl fmt::Display for Reason {
+    fn fmt(&self, f: &mut fmt::Formatter) -> fmt::Result {
+        f.write_str(match self {
+            Reason::ReservedBits => "bits 54..56 are not all 0",
+            Reason::ReservedMode => "ALU modes 7, 8, 9 and those above 12 do nothing",
+            Reason::LaterMode => "ALU modes 10 to 12 are not on M1",
+        })
+    }
+}
+
+impl fmt::Display for Refusal {
+    fn fmt(&self, f: &mut fmt::Formatter) -> fmt::Result {
+        f.write_str(match self {
+            Refusal::StateLength => "the state is not of 5,120 bytes",
+            Refusal::Generation => "the generation is not 1 or 2",
+            Refusal::Instruction => "the instruction is not 14 (mac16) or 18 (vecint)",
+            Refusal::NotCovered => "indexed loads (bit 53) and shuffles (bits 27..30 outside ALU mode 4) are not covered",
+        })
+    }
+}

@@ -1,0 +1,99 @@
+//! The proved unit against the reference, on swept and random inputs.
+mod case;
+mod steps;
+mod swaps;
+mod traces;
+
+use amx::{random::Random, text::parse_number};
+use std::{path::PathBuf, process::ExitCode, time::Instant};
+
+const HELP: &str = "\
+compare [OPTIONS]: the proved unit against the reference
+  --seed N          what is drawn, the same for the same number (1)
+  --steps N         random steps (400000); sequences, normal operands, swaps and traces follow it
+  --trace PROGRAM   the trace program (../target/bin/amx_trace)
+  --need-trace      it is an error where the trace program is not there
+A difference ends it with status 1, and with the smallest case found.";
+
+struct Options {
+    seed: u64,
+    steps: u64,
+    trace: PathBuf,
+    need_trace: bool,
+}
+
+fn options() -> Result<Option<Options>, String> {
+    let trace = PathBuf::from(env!("CARGO_MANIFEST_DIR")).with_file_name("target").join("bin/amx_trace");
+    let mut options = Options { seed: 1, steps: 400_000, trace, need_trace: false };
+    let mut arguments = std::env::args().skip(1);
+    while let Some(argument) = arguments.next() {
+        let mut value = || arguments.next().ok_or(format!("{argument} needs a value"));
+        match argument.as_str() {
+            "--help" | "-h" => return Ok(None),
+            "--seed" => options.seed = parse_number(&value()?)?,
+            "--steps" => options.steps = parse_number(&value()?)?,
+            "--trace" => options.trace = value()?.into(),
+            "--need-trace" => options.need_trace = true,
+            other => return Err(format!("there is no option {other}\n{HELP}")),
+        }
+    }
+    Ok(Some(options))
+}
+
+fn compare(options: &Options) -> Result<(), String> {
+    let start = Instant::now();
+    let Options { seed, steps, .. } = *options;
+    println!("seed {seed}");
+    // a seed of its own for each part, so that one does not depend on the others' lengths
+    let random = |part| Random::new(seed.wrapping_mul(16) + part);
+    let mut tally = steps::Tally::default();
+    let swept = steps::swept(&mut random(0), &mut tally)?;
+    println!("{swept} swept steps: same bytes, same answers ({})", tally.text());
+    let mut tally = steps::Tally::default();
+    let drawn = steps::random(&mut random(1), steps, &mut tally)?;
+    println!("{drawn} random steps: same bytes, same answers ({})", tally.text());
+    let lists = steps / 400;
+    let sequences = steps::sequences(&mut random(2), lists)?;
+    println!("{sequences} steps in {lists} sequences: same bytes at their ends, same answers");
+    let normals = steps::normals(&mut random(3), steps / 4)?;
+    println!("{normals} normal operands: the reference's, same effect and answer, normal themselves");
+    let swaps = swaps::chains(&mut random(4), steps / 40)?;
+    println!(
+        "{} chains of {} allowed swaps ({} apart, {} adding to shared bytes): same bytes, same answers; of {} pairs not allowed {} differ when swapped",
+        swaps.chains,
+        swaps.apart + swaps.adding,
+        swaps.apart,
+        swaps.adding,
+        swaps.not_allowed,
+        swaps.not_allowed_differ
+    );
+    let files = traces::reader(&mut random(5), steps / 200)?;
+    println!("{files} trace files, sound and damaged: this crate reads them as the reference does");
+    if options.trace.is_file() {
+        let files = traces::program(&mut random(6), &options.trace, steps / 1_000)?;
+        println!("{files} trace files, sound and damaged: the trace program prints the reference's text");
+    } else if options.need_trace {
+        return Err(format!("there is no trace program {}\n", options.trace.display()));
+    } else {
+        println!("note: trace program skipped, there is no {}", options.trace.display());
+    }
+    println!("no difference, {:.1} s", start.elapsed().as_secs_f64());
+    Ok(())
+}
+
+fn main() -> ExitCode {
+    let compared = options().and_then(|options| match options {
+        Some(options) => compare(&options),
+        None => {
+            println!("{HELP}");
+            Ok(())
+        }
+    });
+    match compared {
+        Ok(()) => ExitCode::SUCCESS,
+        Err(error) => {
+            eprintln!("{}", error.trim_end());
+            ExitCode::FAILURE
+        }
+    }
+}

@@ -1,0 +1,73 @@
+//! The proved unit's speed against the reference's, in one run. Ratios are of medians of interleaved runs; below 1 the proved unit is faster.
+use amx::{Answer, Call, FieldError, Generation::M2, Mac16, State, Vecint, Vectors, random::Random, reference, step};
+use std::{hint::black_box, time::Instant};
+
+const RUNS: usize = 31;
+
+/// One program over a list of calls.
+fn proved(state: &mut State, calls: &[Call]) -> u64 {
+    calls.iter().map(|&call| step(state, call).number()).sum()
+}
+
+fn second(state: &mut State, calls: &[Call]) -> u64 {
+    calls.iter().map(|call| reference::step(state.bytes_mut(), call.instruction, call.generation, call.operand)).sum()
+}
+
+fn seconds(state: &mut State, calls: &[Call], program: fn(&mut State, &[Call]) -> u64) -> f64 {
+    let start = Instant::now();
+    black_box(program(black_box(state), black_box(calls)));
+    start.elapsed().as_secs_f64()
+}
+
+fn median(mut times: Vec<f64>) -> f64 {
+    times.sort_by(f64::total_cmp);
+    times[times.len() / 2]
+}
+
+/// Times both programs on a list, each run from the same bytes, and checks that both end in the same.
+fn measure(name: &str, start: &State, calls: &[Call]) {
+    let mut times = [Vec::new(), Vec::new()];
+    for _ in 0..RUNS {
+        let (mut a, mut b) = (start.clone(), start.clone());
+        times[0].push(seconds(&mut a, calls, proved));
+        times[1].push(seconds(&mut b, calls, second));
+        assert!(a == b, "{name}: the two programs end in different states");
+    }
+    let [proved, second] = times.map(median);
+    let each = 1e9 / calls.len() as f64;
+    println!("{name:<36} {:>7.0} ns a step   reference {:>7.0}   ratio {:.3}", proved * each, second * each, proved / second);
+}
+
+/// The step of a form at the X offsets of seven kernels, over and over.
+fn form(name: &str, start: &State, call: Call, count: usize) {
+    let calls: Vec<Call> = (0..count).map(|n| Call { operand: call.operand | (n as u64 % 7 * 3) << 10, ..call }).collect();
+    measure(name, start, &calls);
+}
+
+fn main() -> Result<(), FieldError> {
+    let mut random = Random::new(1);
+    let start = random.state();
+    let mac16 = |fields| Call::mac16(M2, fields);
+    let vecint = |mode, widths, vectors| -> Result<Call, FieldError> {
+        let fields = Vecint::new(mode, vectors)?.lane_widths(widths)?.shift(3)?;
+        let fields =
+            if mode == 4 { fields.z_signed(true)?.rounding(true)?.saturate(true)? } else { fields.x_signed(true)?.y_signed(true)? };
+        Ok(Call::vecint(M2, fields))
+    };
+    form("mac16, matrix 16", &start, mac16(Mac16::new()), 300);
+    form("mac16, matrix 32", &start, mac16(Mac16::new().z_i32(true)), 300);
+    form("mac16, vector", &start, mac16(Mac16::new().vector(true)), 4_000);
+    form("vecint, mode 0, widths 0 (16 16 16)", &start, vecint(0, 0, Vectors::One)?, 4_000);
+    form("vecint, mode 0, widths 3 (16 16 32)", &start, vecint(0, 3, Vectors::One)?, 4_000);
+    form("vecint, mode 0, widths 10 (8 8 32)", &start, vecint(0, 10, Vectors::One)?, 4_000);
+    form("vecint, mode 0, widths 11 (8 8 16)", &start, vecint(0, 11, Vectors::One)?, 4_000);
+    form("vecint, mode 0, four vectors", &start, vecint(0, 0, Vectors::Four)?, 2_000);
+    form("vecint, mode 4, widths 3 (32 to 16)", &start, vecint(4, 3, Vectors::One)?, 4_000);
+    form("vecint, mode 5", &start, vecint(5, 0, Vectors::One)?, 4_000);
+    let mixed: Vec<Call> = (0..4_000).map(|_| random.known_call()).collect();
+    measure("both, 4,000 random calls", &start, &mixed);
+    let works = |&call: &Call| matches!(step(&mut State::new(), call), Answer::Done(1..));
+    let records: Vec<Call> = std::iter::repeat_with(|| random.known_call()).filter(works).take(2_048).collect();
+    measure("a whole trace, 2,048 done steps", &start, &records);
+    Ok(())
+}

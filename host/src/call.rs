@@ -1,0 +1,179 @@
+use crate::{Answer, Mac16, State, Vecint};
+
+/// A call of the step. Any numbers may stand here: the step answers for all of them.
+#[derive(Clone, Copy, Debug, PartialEq, Eq, Hash)]
+pub struct Call {
+    /// 14 is mac16, 18 is vecint.
+    pub instruction: u64,
+    /// 1 is M1, 2 is M2.
+    pub generation: u64,
+    /// The 64 bits that the instruction takes.
+    pub operand: u64,
+}
+
+/// The instructions that the unit covers. The discriminant is the instruction's number.
+#[derive(Clone, Copy, Debug, PartialEq, Eq, Hash)]
+pub enum Instruction {
+    /// Products of X and Y lanes onto a row or all of Z.
+    Mac16 = 14,
+    /// Integer operations lane by lane, and reductions of Z.
+    Vecint = 18,
+}
+
+/// The generations that the unit covers. The discriminant is the generation's number.
+#[derive(Clone, Copy, Debug, PartialEq, Eq, Hash)]
+pub enum Generation {
+    /// M1.
+    M1 = 1,
+    /// M2: ALU modes 10 to 12 and several vectors.
+    M2 = 2,
+}
+
+impl Instruction {
+    /// The instruction of this number, if the unit covers it.
+    pub fn from_number(number: u64) -> Option<Self> {
+        [Instruction::Mac16, Instruction::Vecint].into_iter().find(|&instruction| instruction as u64 == number)
+    }
+
+    /// `mac16` or `vecint`.
+    pub fn name(self) -> &'static str {
+        match self {
+            Instruction::Mac16 => "mac16",
+            Instruction::Vecint => "vecint",
+        }
+    }
+}
+
+impl Generation {
+    /// The generation of this number, if the unit covers it.
+    pub fn from_number(number: u64) -> Option<Self> {
+        [Generation::M1, Generation::M2].into_iter().find(|&generation| generation as u64 == number)
+    }
+
+    /// `m1` or `m2`.
+    pub fn name(self) -> &'static str {
+        match self {
+            Generation::M1 => "m1",
+            Generation::M2 => "m2",
+        }
+    }
+}
+
+impl Call {
+    /// A call by its three numbers.
+    pub fn new(instruction: u64, generation: u64, operand: u64) -> Self {
+        Call { instruction, generation, operand }
+    }
+
+    /// A mac16, by its fields.
+    pub fn mac16(generation: Generation, fields: Mac16) -> Self {
+        Call::new(Instruction::Mac16 as u64, generation as u64, fields.operand())
+    }
+
+    /// A vecint, by its fields.
+    pub fn vecint(generation: Generation, fields: Vecint) -> Self {
+        Call::new(Instruction::Vecint as u64, generation as u64, fields.operand())
+    }
+}
+
+/// One step of the proved unit.
+///
+/// ```
+/// use amx::{Answer, Call, Generation, Mac16, Register, State, Width, step};
+/// let mut state = State::new();
+/// state.set_lane(Register::X(0), 0, Width::Bits16, 3);
+/// state.set_lane(Register::Y(0), 0, Width::Bits16, -2);
+/// state.set_lane(Register::Z(5), 0, Width::Bits16, 10);
+///
+/// let call = Call::mac16(Generation::M1, Mac16::new().vector(true).z_row(5)?);
+/// assert_eq!(step(&mut state, call), Answer::Done(32));
+/// assert_eq!(state.signed_lane(Register::Z(5), 0, Width::Bits16), 4);
+/// # Ok::<(), amx::FieldError>(())
+/// ```
+pub fn step(state: &mut State, call: Call) -> Answer {
+    step_bytes(state.bytes_mut(), call.instruction, call.generation, call.operand)
+}
+
+/// One step of the proved unit on bytes of any length; a length other than 5,120 is refused.
+///
+/// ```
+/// use amx::{Answer, Refusal, step_bytes};
+/// assert_eq!(step_bytes(&mut [0; 5_119], 14, 1, 0), Answer::Refused(Refusal::StateLength));
+/// assert_eq!(step_bytes(&mut [0; 5_120], 14, 1, 1 << 63), Answer::Done(32));
+/// ```
+pub fn step_bytes(state: &mut [u8], instruction: u64, generation: u64, operand: u64) -> Answer {
+    answered(unit::step(state, instruction, generation, operand))
+}
+
+/// The normal operand of a call: its ignored bits cleared. The step with it has the same answer and effect on every state of 5,120 bytes.
+/// An error is the step's own no-op or refusal.
+///
+/// ```
+/// use amx::{Answer, Call, Reason, normal};
+/// assert_eq!(normal(Call::new(14, 1, 1 << 63 | 1 << 62 | 7)), Ok(1 << 63 | 7));
+/// assert_eq!(normal(Call::new(18, 1, 1 << 54)), Err(Answer::NoOp(Reason::ReservedBits)));
+/// ```
+pub fn normal(call: Call) -> Result<u64, Answer> {
+    match unit::normal_answer(call.instruction, call.generation, call.operand) {
+        0 => Ok(unit::normal_operand(call.instruction, call.generation, call.operand)),
+        number => Err(answered(number)),
+    }
+}
+
+/// Every call of a list in turn on one state, with the answer of each.
+///
+/// ```
+/// use amx::{Answer, Call, Reason, State, run};
+/// let calls = [Call::new(14, 1, 1 << 63), Call::new(18, 1, 1 << 54)];
+/// assert_eq!(run(&mut State::new(), &calls), [Answer::Done(32), Answer::NoOp(Reason::ReservedBits)]);
+/// ```
+pub fn run(state: &mut State, calls: &[Call]) -> Vec<Answer> {
+    calls.iter().map(|&call| step(state, call)).collect()
+}
+
+fn answered(number: u64) -> Answer {
+    // the library's contract has no other numbers
+    Answer::from_number(number).unwrap_or_else(|| panic!("libamx.a answered {number}, which amx.h does not have"))
+}
+
+/// The C interface of libamx.a, include/amx.h.
+#[allow(unsafe_code)]
+mod unit {
+    unsafe extern "C" {
+        fn amx_step(state: *mut u8, length: u64, instruction: u64, generation: u64, operand: u64) -> u64;
+        #[link_name = "amx_normal_answer"]
+        pub safe fn normal_answer(instruction: u64, generation: u64, operand: u64) -> u64;
+        #[link_name = "amx_normal_operand"]
+        pub safe fn normal_operand(instruction: u64, generation: u64, operand: u64) -> u64;
+    }
+
+    pub fn step(state: &mut [u8], instruction: u64, generation: u64, operand: u64) -> u64 {
+        // SAFETY: pointer and length are of one slice, lent to this call alone; amx_step keeps neither and takes every number
+        unsafe { amx_step(state.as_mut_ptr(), state.len() as u64, instruction, generation, operand) }
+    }
+}
+
+#[cfg(test)]
+mod tests {
+    use super::*;
+    use crate::{random::Random, reference};
+
+    #[test]
+    fn an_operand_that_is_not_done_is_handed_back_as_given() {
+        let mut random = Random::new(9);
+        for _ in 0..20_000 {
+            let Call { instruction, generation, operand } = random.call();
+            let expected = reference::normal(instruction, generation, operand).unwrap_or(operand);
+            assert_eq!(unit::normal_operand(instruction, generation, operand), expected);
+        }
+    }
+
+    #[test]
+    fn numbers_above_their_bytes_are_refused() {
+        let refusal = |instruction, generation| step_bytes(&mut [0; 5_120], instruction, generation, 0).to_string();
+        assert_eq!(refusal((1 << 32) + 14, 1), "refused 3");
+        assert_eq!(refusal(14, (1 << 32) + 1), "refused 2");
+        assert_eq!(refusal(15, 3), "refused 2");
+        assert_eq!(step_bytes(&mut [], 15, 3, 0).to_string(), "refused 1");
+    }
+}

@@ -1,0 +1,40 @@
+//! The AMX integer unit for people who write kernels: safe calls of the proved unit, libamx.a.
+//!
+//! - [`State`] holds the registers; [`step`] does one call on it, and [`step_bytes`] does so on bytes of any length.
+//! - [`Answer`] tells a step that was done from a no-op and a refusal, with the reason.
+//! - [`Mac16`] and [`Vecint`] build operands by field; [`explain`] goes back, with the ignored bits; [`normal`] clears those.
+//! - [`Trace`] reads and writes trace files, and [`text`] their texts.
+//! - [`mod@reference`] is a second program for the same pages. Nothing here relies on it but [`lane_grid`]; the `compare` program runs both.
+//!
+//! ```
+//! use amx::{Answer, Call, Generation, Register, State, Vecint, Vectors, Width, step};
+//!
+//! // X byte 255 unsigned times Y byte -1 signed, onto 16-bit lanes
+//! let mut state = State::new();
+//! state.set_lane(Register::X(0), 0, Width::Bits8, 255);
+//! state.set_lane(Register::Y(0), 0, Width::Bits8, -1);
+//! let fields = Vecint::new(0, Vectors::One)?.lane_widths(11)?.y_signed(true)?;
+//!
+//! assert_eq!(step(&mut state, Call::vecint(Generation::M1, fields)), Answer::Done(64));
+//! assert_eq!(state.signed_lane(Register::Z(0), 0, Width::Bits16), -255);
+//! # Ok::<(), amx::FieldError>(())
+//! ```
+#![deny(unsafe_code)] // but for the three calls of libamx.a
+#![warn(missing_docs)]
+
+mod answer;
+mod call;
+mod explain;
+mod operand;
+pub mod random;
+pub mod reference;
+mod state;
+pub mod text;
+mod trace;
+
+pub use answer::{Answer, Reason, Refusal};
+pub use call::{Call, Generation, Instruction, normal, run, step, step_bytes};
+pub use explain::{Explanation, explain, lane_grid};
+pub use operand::{Field, FieldError, Mac16, Vecint, Vectors, When, fields, with_field};
+pub use state::{Register, STATE_LENGTH, State, Width};
+pub use trace::{FileRefusal, NoRecord, Record, Trace, TraceFull};

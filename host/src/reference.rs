@@ -1,0 +1,429 @@
+//! A second program for the same pages: both instructions, the normal operand, the terms of the swap rule and the trace text.
+//!
+//! Written from the scope's text lane by lane, for plainness and not for speed. It shares no code with the proved unit nor with the rest
+//! of this crate, so that a misreading in one of them shows when they are compared. Answers are the host's numbers: the lane count,
+//! 65,536 + the reason of a no-op, 131,072 + the number of a refusal.
+
+const NO_OP: u64 = 65_536;
+const REFUSED: u64 = 131_072;
+
+/// Where Z begins in the state.
+const Z: usize = 1_024;
+
+fn bits(operand: u64, low: u32, high: u32) -> usize {
+    (operand >> low & ((2 << (high - low)) - 1)) as usize
+}
+
+fn bit(operand: u64, n: u32) -> bool {
+    operand >> n & 1 == 1
+}
+
+/// A Z lane that a step enables.
+#[derive(Clone, Copy, Debug, PartialEq, Eq)]
+pub struct Lane {
+    /// The row of Z, 0 to 63.
+    pub row: usize,
+    /// The lane in its row.
+    pub lane: usize,
+    /// The lane's bytes: 1, 2 or 4.
+    pub bytes: usize,
+    /// Which of several vectors, and the X and Y lanes that come here.
+    vector: usize,
+    x: usize,
+    y: usize,
+}
+
+impl Lane {
+    /// The lane's first byte, in the state.
+    pub fn start(&self) -> usize {
+        Z + 64 * self.row + self.bytes * self.lane
+    }
+}
+
+/// The answer of a step that isn't done: the first row of the table that applies.
+fn not_done(length: usize, instruction: u64, generation: u64, operand: u64) -> Option<u64> {
+    if length != 5_120 {
+        return Some(REFUSED + 1);
+    }
+    if generation != 1 && generation != 2 {
+        return Some(REFUSED + 2);
+    }
+    if instruction != 14 && instruction != 18 {
+        return Some(REFUSED + 3);
+    }
+    if instruction == 14 {
+        return None;
+    }
+    let mode = if bit(operand, 53) { 0 } else { bits(operand, 47, 52) };
+    if bits(operand, 54, 56) != 0 {
+        return Some(NO_OP + 1);
+    }
+    if matches!(mode, 7..=9) || mode > 12 {
+        return Some(NO_OP + 2);
+    }
+    if matches!(mode, 10..=12) && generation == 1 {
+        return Some(NO_OP + 3);
+    }
+    if bit(operand, 53) || (mode != 4 && bits(operand, 27, 30) != 0) {
+        return Some(REFUSED + 4);
+    }
+    None
+}
+
+/// The Z lanes that a call on a state of 5,120 bytes enables, none where it isn't done.
+pub fn lanes(instruction: u64, generation: u64, operand: u64) -> Vec<Lane> {
+    match (not_done(5_120, instruction, generation, operand), instruction) {
+        (Some(_), _) => Vec::new(),
+        (None, 14) => mac16_lanes(operand),
+        _ => vecint_lanes(generation, operand),
+    }
+}
+
+/// Whether a step only adds to Z, so that it may be swapped with another such step of the same lane width.
+pub fn only_adds(instruction: u64, generation: u64, operand: u64) -> bool {
+    if not_done(5_120, instruction, generation, operand).is_some() {
+        return false;
+    }
+    match instruction {
+        14 => !bit(operand, 27),
+        _ => matches!(bits(operand, 47, 52), 0..=3 | 11 | 12) && !output_forced_to_0(generation, operand),
+    }
+}
+
+/// One step on a state of any length: the host's number, and the state as the step leaves it.
+pub fn step(state: &mut [u8], instruction: u64, generation: u64, operand: u64) -> u64 {
+    if let Some(answer) = not_done(state.len(), instruction, generation, operand) {
+        return answer;
+    }
+    let enabled = lanes(instruction, generation, operand);
+    match instruction {
+        14 => mac16(state, &enabled, operand),
+        _ => vecint(state, &enabled, generation, operand),
+    }
+    enabled.len() as u64
+}
+
+/// 64 bytes of X or Y, round the 512-byte ring.
+fn load(ring: &[u8], offset: usize) -> [u8; 64] {
+    std::array::from_fn(|i| ring[(offset + i) % 512])
+}
+
+/// The little-endian number in 1, 2 or 4 bytes.
+fn number(bytes: &[u8], signed: bool) -> i64 {
+    let unsigned = bytes.iter().rev().fold(0, |n, &byte| n * 256 + i64::from(byte));
+    let span = 1 << (8 * bytes.len());
+    if signed && unsigned >= span / 2 { unsigned - span } else { unsigned }
+}
+
+/// Stores a result modulo 2 to the lane's width.
+fn store(state: &mut [u8], lane: &Lane, result: i64) {
+    for j in 0..lane.bytes {
+        state[lane.start() + j] = (result >> (8 * j)) as u8;
+    }
+}
+
+/// Enable modes 0, 2 and 3 as both instructions have them: lane `i` of `count`.
+fn common_mask(mode: usize, n: usize, i: usize, count: usize) -> bool {
+    match (mode, n) {
+        (0, 0) => true,
+        (0, 1) => i % 2 == 1,
+        (0, 2) => i.is_multiple_of(2),
+        (2 | 3, 0) => true,
+        (2, n) => i < n,
+        (3, n) => i + n >= count,
+        _ => false,
+    }
+}
+
+fn mac16_lanes(operand: u64) -> Vec<Lane> {
+    let mask = |mode, n, i| if mode == 1 { i == n } else { common_mask(mode, n, i, 32) };
+    let x_on = |i| mask(bits(operand, 46, 47), bits(operand, 41, 45), i);
+    let y_on = |j| mask(bits(operand, 37, 38), bits(operand, 32, 36), j);
+    let z_row = bits(operand, 20, 25);
+    let mut enabled = Vec::with_capacity(1_024);
+    for i in (0..32).filter(|&i| x_on(i)) {
+        if bit(operand, 63) {
+            enabled.push(Lane { row: z_row, lane: i, bytes: 2, vector: 0, x: i, y: i });
+            continue;
+        }
+        for j in (0..32).filter(|&j| y_on(j)) {
+            enabled.push(if bit(operand, 62) {
+                Lane { row: 2 * j + i % 2, lane: i / 2, bytes: 4, vector: 0, x: i, y: j }
+            } else {
+                Lane { row: 2 * j + z_row % 2, lane: i, bytes: 2, vector: 0, x: i, y: j }
+            });
+        }
+    }
+    enabled
+}
+
+fn mac16(state: &mut [u8], enabled: &[Lane], operand: u64) {
+    let x = load(&state[..512], bits(operand, 10, 18));
+    let y = load(&state[512..Z], bits(operand, 0, 8));
+    let (x_bytes, y_bytes) = (if bit(operand, 61) { 1 } else { 2 }, if bit(operand, 60) { 1 } else { 2 });
+    let shift = bits(operand, 55, 59);
+    for lane in enabled {
+        // an i8 is the low byte of its 16-bit lane
+        let x = number(&x[2 * lane.x..][..x_bytes], true);
+        let y = number(&y[2 * lane.y..][..y_bytes], true);
+        let value = match (bit(operand, 29), bit(operand, 28)) {
+            (false, false) => x * y,
+            (false, true) => x,
+            (true, false) => y,
+            (true, true) => 0,
+        };
+        let old = if bit(operand, 27) { 0 } else { number(&state[lane.start()..][..lane.bytes], true) };
+        store(state, lane, old + (value >> shift));
+    }
+}
+
+/// The bits of an X, a Y and a Z lane, outside mode 4.
+fn widths(operand: u64) -> (usize, usize, usize) {
+    match (bits(operand, 47, 52), bits(operand, 42, 45)) {
+        (5 | 6, _) => (16, 16, 16),
+        (_, 3) => (16, 16, 32),
+        (_, 10) => (8, 8, 32),
+        (_, 11) => (8, 8, 16),
+        (_, 12) => (8, 16, 32),
+        (_, 13) => (16, 8, 32),
+        _ => (16, 16, 16),
+    }
+}
+
+/// The bits of a Z lane in mode 4, and those it is clamped to.
+fn reduced_widths(operand: u64) -> (usize, usize) {
+    match bits(operand, 42, 45) {
+        3 => (32, 16),
+        4 => (32, 32),
+        9 => (8, 8),
+        10 => (32, 8),
+        11 => (16, 8),
+        _ => (16, 16),
+    }
+}
+
+fn several_vectors(generation: u64, operand: u64) -> bool {
+    generation == 2 && bit(operand, 31)
+}
+
+/// The broadcast mode of several vectors; of one vector, none.
+fn broadcast(generation: u64, operand: u64) -> Option<usize> {
+    several_vectors(generation, operand).then(|| bits(operand, 32, 34))
+}
+
+/// Enable mode and value of one vector; of several, none.
+fn enable(generation: u64, operand: u64) -> Option<(usize, usize)> {
+    (!several_vectors(generation, operand)).then(|| (bits(operand, 38, 40), bits(operand, 32, 37)))
+}
+
+fn output_forced_to_0(generation: u64, operand: u64) -> bool {
+    broadcast(generation, operand) == Some(1) || enable(generation, operand) == Some((0, 3))
+}
+
+fn vecint_mask(mode: usize, n: usize, i: usize, count: usize) -> bool {
+    match (mode, n) {
+        (0, 3..=5) | (1, _) => true,
+        (4, n) => i < n,
+        (5, n) => i + n >= count,
+        _ => common_mask(mode, n, i, count),
+    }
+}
+
+fn vecint_lanes(generation: u64, operand: u64) -> Vec<Lane> {
+    let (x_bits, y_bits, z_bits) = if bits(operand, 47, 52) == 4 {
+        // Z alone: its own width masks it, and it has no group of rows
+        let z = reduced_widths(operand).0;
+        (z, z, z)
+    } else {
+        widths(operand)
+    };
+    let (vectors, stride) = match (several_vectors(generation, operand), bit(operand, 25)) {
+        (false, _) => (1, 64),
+        (true, false) => (2, 32),
+        (true, true) => (4, 16),
+    };
+    let narrower = x_bits.min(y_bits);
+    let group = z_bits / narrower;
+    let mut enabled = Vec::with_capacity(256);
+    for vector in 0..vectors {
+        let row = bits(operand, 20, 25) % stride + stride * vector;
+        for k in 0..512 / narrower {
+            let (mut x, mut y) = (k * narrower / x_bits, k * narrower / y_bits);
+            if let Some((mode, n)) = enable(generation, operand) {
+                if !vecint_mask(mode, n, x, 512 / x_bits) {
+                    continue;
+                }
+                if mode == 1 {
+                    y = n % (512 / y_bits);
+                }
+            }
+            match broadcast(generation, operand) {
+                Some(6) => x = 0,
+                Some(7) => y = 0,
+                _ => {}
+            }
+            enabled.push(Lane { row: row / group * group + k % group, lane: k / group, bytes: z_bits / 8, vector, x, y });
+        }
+    }
+    enabled
+}
+
+fn vecint(state: &mut [u8], enabled: &[Lane], generation: u64, operand: u64) {
+    let mode = bits(operand, 47, 52);
+    let shift = bits(operand, 58, 62);
+    if output_forced_to_0(generation, operand) {
+        return enabled.iter().for_each(|lane| store(state, lane, 0));
+    }
+    if mode == 4 {
+        return enabled.iter().for_each(|lane| {
+            let z = number(&state[lane.start()..][..lane.bytes], bit(operand, 63));
+            store(state, lane, reduced(z, shift, operand));
+        });
+    }
+    let (broadcast, enable) = (broadcast(generation, operand), enable(generation, operand));
+    let x_read_as_0 = broadcast == Some(4) || enable == Some((0, 4));
+    let y_read_as_0 = broadcast == Some(5) || enable == Some((0, 5));
+    let x_advance = if matches!(broadcast, Some(2 | 6)) { 0 } else { 64 };
+    let y_advance = if matches!(broadcast, Some(3 | 7)) { 0 } else { 64 };
+    let x: [_; 4] = std::array::from_fn(|vector| load(&state[..512], bits(operand, 10, 18) + x_advance * vector));
+    let y: [_; 4] = std::array::from_fn(|vector| load(&state[512..Z], bits(operand, 0, 8) + y_advance * vector));
+    let (x_bits, y_bits, _) = widths(operand);
+    let (x_bytes, y_bytes) = (x_bits / 8, y_bits / 8);
+    for lane in enabled {
+        let x = if x_read_as_0 { 0 } else { number(&x[lane.vector][x_bytes * lane.x..][..x_bytes], bit(operand, 63)) };
+        let y = if y_read_as_0 { 0 } else { number(&y[lane.vector][y_bytes * lane.y..][..y_bytes], bit(operand, 26)) };
+        let z = number(&state[lane.start()..][..lane.bytes], true);
+        let result = match mode {
+            0 => z + ((x * y) >> shift),
+            1 => z - ((x * y) >> shift),
+            2 => z + ((x + y) >> shift),
+            3 => z - ((x + y) >> shift),
+            5 => (z + ((x * y + 16_384) >> 15)).clamp(-32_768, 32_767),
+            6 => (z - ((x * y + 16_384) >> 15)).clamp(-32_768, 32_767),
+            10 => (x * y) >> shift,
+            11 => z + (x >> shift),
+            _ => z + (y >> shift), // 12: the others are not done
+        };
+        store(state, lane, result);
+    }
+}
+
+/// Mode 4: shifted, rounded where asked, clamped where asked.
+fn reduced(z: i64, shift: usize, operand: u64) -> i64 {
+    let rounding = if bit(operand, 29) && shift > 0 { 1 << (shift - 1) } else { 0 };
+    let shifted = (z + rounding) >> shift;
+    let saturation = reduced_widths(operand).1;
+    match (bit(operand, 30), bit(operand, 26)) {
+        (false, _) => shifted,
+        (true, true) => shifted.clamp(-(1 << (saturation - 1)), (1 << (saturation - 1)) - 1),
+        (true, false) => shifted.clamp(0, (1 << saturation) - 1),
+    }
+}
+
+/// The normal operand: the operand with its ignored bits cleared; an error is the number of the step's own no-op or refusal.
+pub fn normal(instruction: u64, generation: u64, operand: u64) -> Result<u64, u64> {
+    if let Some(answer) = not_done(5_120, instruction, generation, operand) {
+        return Err(answer);
+    }
+    let ignored = if instruction == 14 { mac16_ignored(operand) } else { vecint_ignored(generation, operand) };
+    Ok(ignored.into_iter().flat_map(|(low, high)| low..=high).fold(operand, |operand, n| operand & !(1 << n)))
+}
+
+fn mac16_ignored(operand: u64) -> Vec<(u32, u32)> {
+    let mut ranges = vec![(48, 54), (39, 40), (30, 31), (26, 26), (19, 19), (9, 9)];
+    match (bit(operand, 63), bit(operand, 62)) {
+        (true, _) => ranges.extend([(62, 62), (32, 38)]),
+        (false, false) => ranges.push((21, 25)),
+        (false, true) => ranges.push((20, 25)),
+    }
+    ranges
+}
+
+fn vecint_ignored(generation: u64, operand: u64) -> Vec<(u32, u32)> {
+    let mode = bits(operand, 47, 52);
+    let mut ranges = vec![(57, 57), (46, 46), (41, 41), (19, 19), (9, 9)];
+    if generation == 1 {
+        ranges.push((31, 31));
+    }
+    if several_vectors(generation, operand) {
+        ranges.push((35, 40));
+        if bit(operand, 25) {
+            ranges.push((24, 24));
+        }
+    }
+    if mode == 5 || mode == 6 {
+        ranges.extend([(58, 62), (42, 45)]);
+    }
+    if mode == 4 {
+        ranges.extend([(27, 28), (10, 18), (0, 8)]);
+    } else {
+        let (x_bits, y_bits, z_bits) = widths(operand);
+        match z_bits / x_bits.min(y_bits) {
+            2 => ranges.push((20, 20)),
+            4 => ranges.push((20, 21)),
+            _ => {}
+        }
+    }
+    ranges
+}
+
+fn u16_at(file: &[u8], at: usize) -> u64 {
+    number(&file[at..at + 2], false) as u64
+}
+
+fn u32_at(file: &[u8], at: usize) -> u64 {
+    number(&file[at..at + 4], false) as u64
+}
+
+/// The text that the trace program prints for a file: the lines of its steps and changed rows, or the refusal of the file.
+pub fn trace(file: &[u8]) -> String {
+    match refused_file(file) {
+        Some(refusal) => format!("file refused {refusal}\n"),
+        None => traced(file),
+    }
+}
+
+fn refused_file(file: &[u8]) -> Option<u64> {
+    if file.len() < 28 {
+        return Some(5);
+    }
+    let entry = |at| (u16_at(file, at), u16_at(file, at + 2), u32_at(file, at + 4), u32_at(file, at + 8));
+    let (kind, zero, offset, length) = entry(16);
+    let sound = u32_at(file, 0) == 2
+        && entry(4) == (1, 0, 28, 5_120)
+        && (kind, zero, offset) == (2, 0, 5_148)
+        && length % 16 == 0
+        && length / 16 <= 2_048
+        && file.len() as u64 == 5_148 + length;
+    if !sound {
+        return Some(6);
+    }
+    let padding_is_0 = file[5_148..].chunks(16).all(|record| record[2..8] == [0; 6]);
+    if padding_is_0 { None } else { Some(7) }
+}
+
+fn traced(file: &[u8]) -> String {
+    let start = &file[28..5_148];
+    let mut state = start.to_vec();
+    let mut text = String::new();
+    let records = file[5_148..].chunks(16);
+    let count = records.len();
+    for (place, record) in records.enumerate() {
+        let operand = record[8..].iter().rev().fold(0, |n, &byte| n << 8 | u64::from(byte));
+        let answer = step(&mut state, record[0].into(), record[1].into(), operand);
+        let words = match answer {
+            REFUSED.. => format!("refused {}", answer - REFUSED),
+            NO_OP.. => format!("no-op {}", answer - NO_OP),
+            _ => format!("done {answer}"),
+        };
+        text += &format!("step {place} {words}\n");
+    }
+    for row in 0..64 {
+        let bytes = Z + 64 * row..Z + 64 * row + 64;
+        if state[bytes.clone()] != start[bytes.clone()] {
+            let digits: String = state[bytes].iter().map(|byte| format!("{byte:02x}")).collect();
+            text += &format!("z {row} {digits}\n");
+        }
+    }
+    text + &format!("steps {count}\n")
+}

@@ -1,0 +1,220 @@
+use std::fmt;
+
+/// The bytes of X, Y and Z together.
+pub const STATE_LENGTH: usize = 5_120;
+
+/// The unit's state: X and Y of 512 bytes each, then the 64 rows of Z.
+///
+/// X and Y are 8 registers of 64 bytes each and Z is 64 of them, so a [`Register`] names every 64-byte row. Lanes are little-endian.
+///
+/// ```
+/// use amx::{Register, State, Width};
+/// let mut state = State::new();
+/// state.set_lane(Register::Z(3), 7, Width::Bits16, -2);
+/// assert_eq!(state.lane(Register::Z(3), 7, Width::Bits16), 65_534);
+/// assert_eq!(state.signed_lane(Register::Z(3), 7, Width::Bits16), -2);
+/// assert_eq!(state.row(Register::Z(3))[14..16], [0xfe, 0xff]);
+/// ```
+#[derive(Clone, PartialEq, Eq)]
+pub struct State([u8; STATE_LENGTH]);
+
+/// A 64-byte row of the state.
+#[derive(Clone, Copy, Debug, PartialEq, Eq, Hash)]
+pub enum Register {
+    /// A register of X, 0 to 7: the bytes from 64 times its number on.
+    X(usize),
+    /// A register of Y, 0 to 7.
+    Y(usize),
+    /// A row of Z, 0 to 63.
+    Z(usize),
+}
+
+/// The width of a lane.
+#[derive(Clone, Copy, Debug, PartialEq, Eq, Hash)]
+pub enum Width {
+    /// 64 lanes in a row.
+    Bits8,
+    /// 32 lanes in a row.
+    Bits16,
+    /// 16 lanes in a row.
+    Bits32,
+}
+
+impl Width {
+    /// 1, 2 or 4.
+    pub fn bytes(self) -> usize {
+        match self {
+            Width::Bits8 => 1,
+            Width::Bits16 => 2,
+            Width::Bits32 => 4,
+        }
+    }
+
+    /// The lanes of this width in a row.
+    pub fn lanes(self) -> usize {
+        64 / self.bytes()
+    }
+}
+
+impl Register {
+    /// Every register, in the order of the state's bytes.
+    pub fn all() -> impl Iterator<Item = Register> {
+        (0..8).map(Register::X).chain((0..8).map(Register::Y)).chain((0..64).map(Register::Z))
+    }
+
+    /// The register's first byte in the state.
+    ///
+    /// # Panics
+    ///
+    /// Where there is no such register, as a slice does.
+    pub fn start(self) -> usize {
+        let (first, number, count) = match self {
+            Register::X(n) => (0, n, 8),
+            Register::Y(n) => (512, n, 8),
+            Register::Z(n) => (1_024, n, 64),
+        };
+        assert!(number < count, "there is no register {self:?}");
+        first + 64 * number
+    }
+}
+
+impl State {
+    /// All bytes 0.
+    pub fn new() -> Self {
+        State([0; STATE_LENGTH])
+    }
+
+    /// A state of these bytes.
+    pub fn from_bytes(bytes: [u8; STATE_LENGTH]) -> Self {
+        State(bytes)
+    }
+
+    /// All bytes: X, Y, then the rows of Z.
+    pub fn bytes(&self) -> &[u8; STATE_LENGTH] {
+        &self.0
+    }
+
+    /// All bytes, to be written.
+    pub fn bytes_mut(&mut self) -> &mut [u8; STATE_LENGTH] {
+        &mut self.0
+    }
+
+    /// The 512 bytes of X.
+    pub fn x(&self) -> &[u8] {
+        &self.0[..512]
+    }
+
+    /// The 512 bytes of X, to be written.
+    ///
+    /// ```
+    /// let mut state = amx::State::new();
+    /// state.x_mut()[..3].copy_from_slice(&[1, 2, 3]);
+    /// assert_eq!(state.x()[1], 2);
+    /// ```
+    pub fn x_mut(&mut self) -> &mut [u8] {
+        &mut self.0[..512]
+    }
+
+    /// The 512 bytes of Y.
+    pub fn y(&self) -> &[u8] {
+        &self.0[512..1_024]
+    }
+
+    /// The 512 bytes of Y, to be written.
+    pub fn y_mut(&mut self) -> &mut [u8] {
+        &mut self.0[512..1_024]
+    }
+
+    /// The 64 bytes of a register.
+    ///
+    /// # Panics
+    ///
+    /// Where there is no such register, as a slice does.
+    pub fn row(&self, register: Register) -> &[u8] {
+        &self.0[register.start()..][..64]
+    }
+
+    /// The 64 bytes of a register, to be written.
+    ///
+    /// # Panics
+    ///
+    /// Where there is no such register, as a slice does.
+    pub fn row_mut(&mut self, register: Register) -> &mut [u8] {
+        &mut self.0[register.start()..][..64]
+    }
+
+    /// A lane as an unsigned number.
+    ///
+    /// # Panics
+    ///
+    /// Where there is no such register or lane, as a slice does.
+    pub fn lane(&self, register: Register, lane: usize, width: Width) -> u32 {
+        let bytes = &self.row(register)[lane * width.bytes()..][..width.bytes()];
+        bytes.iter().rev().fold(0, |number, &byte| number << 8 | u32::from(byte))
+    }
+
+    /// A lane as a signed number.
+    ///
+    /// # Panics
+    ///
+    /// Where there is no such register or lane, as a slice does.
+    pub fn signed_lane(&self, register: Register, lane: usize, width: Width) -> i32 {
+        let unused = 32 - 8 * width.bytes();
+        (self.lane(register, lane, width) << unused) as i32 >> unused
+    }
+
+    /// Writes a lane, modulo 2 to its width: negative numbers are as good as unsigned ones.
+    ///
+    /// # Panics
+    ///
+    /// Where there is no such register or lane, as a slice does.
+    pub fn set_lane(&mut self, register: Register, lane: usize, width: Width, value: i64) {
+        let bytes = &mut self.row_mut(register)[lane * width.bytes()..][..width.bytes()];
+        bytes.copy_from_slice(&value.to_le_bytes()[..width.bytes()]);
+    }
+}
+
+impl Default for State {
+    fn default() -> Self {
+        State::new()
+    }
+}
+
+/// Only the registers that are not all 0.
+impl fmt::Debug for State {
+    fn fmt(&self, f: &mut fmt::Formatter) -> fmt::Result {
+        let set = Register::all().filter(|&register| self.row(register).iter().any(|&byte| byte != 0));
+        f.debug_map().entries(set.map(|register| (register, self.row(register)))).finish()
+    }
+}
+
+#[cfg(test)]
+mod tests {
+    use super::*;
+
+    #[test]
+    fn lanes_are_little_endian_and_kept_modulo_their_width() {
+        let mut state = State::new();
+        for (width, value, stored) in [(Width::Bits8, 0x1ff, 0xff), (Width::Bits16, -1, 0xffff), (Width::Bits32, 1 << 32 | 5, 5)] {
+            let last = width.lanes() - 1;
+            state.set_lane(Register::Y(7), last, width, value);
+            assert_eq!(state.lane(Register::Y(7), last, width), stored);
+        }
+        assert_eq!(state.bytes()[1_020..1_024], [5, 0, 0, 0]);
+        state.set_lane(Register::Z(63), 15, Width::Bits32, -7);
+        assert_eq!(state.signed_lane(Register::Z(63), 15, Width::Bits32), -7);
+        assert_eq!(state.bytes()[5_116..], [0xf9, 0xff, 0xff, 0xff]);
+    }
+
+    #[test]
+    fn registers_follow_each_other() {
+        let starts: Vec<usize> = Register::all().map(Register::start).collect();
+        assert_eq!(starts, (0..80).map(|n| 64 * n).collect::<Vec<_>>());
+    }
+
+    #[test]
+    #[should_panic(expected = "no register Z(64)")]
+    fn a_row_past_the_last_panics() {
+        State::new().row(Register::Z(64));
+    }
+}

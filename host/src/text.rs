@@ -1,0 +1,348 @@
+//! Texts of steps, for people: `assemble` makes a trace of a text, `disassemble` goes back, and the way there and back is exact.
+//!
+//! One line each; what follows a `#` is a comment.
+//!
+//! ```text
+//! x: 03 00 05 00                                  # the starting state: bytes of X from 0 on, in hex
+//! y 1: 0200                                       # bytes of register 1 of Y, from its first
+//! z 3: ff7f                                       # bytes of row 3 of Z; all others are 0
+//! mac16 m1 vector x=0 y=64 z_row=3 shift=2        # steps: instruction, generation, fields by name; fields not named are 0
+//! vecint m2 several four widths=3 broadcast_mode=2
+//! vecint m1 shift=4 bits=0x200                    # bits= sets bits that have no name
+//! raw 18 2 0x8000000000000000                     # a step by its numbers, any
+//! ```
+
+use crate::{
+    Call, Generation, Instruction, NoRecord, Record, Register, State, Trace, fields,
+    operand::{find, place},
+    with_field,
+};
+use std::fmt;
+
+/// What is wrong with a text, and in which line.
+#[derive(Clone, Debug, PartialEq, Eq)]
+pub struct TextError {
+    /// The line, counted from 1.
+    pub line: usize,
+    /// What was expected.
+    pub expected: String,
+}
+
+impl fmt::Display for TextError {
+    fn fmt(&self, f: &mut fmt::Formatter) -> fmt::Result {
+        write!(f, "line {}: {}", self.line, self.expected)
+    }
+}
+
+impl std::error::Error for TextError {}
+
+/// The trace that a text describes.
+///
+/// ```
+/// use amx::text::{assemble, disassemble};
+/// let trace = assemble("x: 0300\ny: 0200\nmac16 m1 vector  # one row\n").unwrap();
+/// assert_eq!(trace.records()[0].operand, 1 << 63);
+/// assert_eq!(disassemble(&trace), "x 0: 03\ny 0: 02\nmac16 m1 vector\n");
+///
+/// let error = assemble("mac16 m1 vector\nmac16 m1 shift=32\n").unwrap_err();
+/// assert_eq!(error.to_string(), "line 2: shift (bits 55..59) is 0 to 31, not 32");
+/// ```
+pub fn assemble(text: &str) -> Result<Trace, TextError> {
+    let mut trace = Trace::new(State::new());
+    let mut given = [false; crate::STATE_LENGTH];
+    for (number, line) in text.lines().enumerate() {
+        let line = line.split('#').next().unwrap_or_default().trim();
+        let assembled = match line.split_once(':') {
+            _ if line.is_empty() => Ok(()),
+            Some(_) if !trace.records().is_empty() => Err("lines of the starting state stand before the first step".to_owned()),
+            Some((place, digits)) => state_line(trace.start_mut(), &mut given, place.trim(), digits),
+            None => parse_call(line).and_then(|call| {
+                let record = Record::try_from(call).map_err(|error: NoRecord| error.to_string())?;
+                trace.push(record).map_err(|error| error.to_string())
+            }),
+        };
+        assembled.map_err(|expected| TextError { line: number + 1, expected })?;
+    }
+    Ok(trace)
+}
+
+/// The text of a trace: [`assemble`] makes the same trace of it.
+pub fn disassemble(trace: &Trace) -> String {
+    let mut text = String::new();
+    for register in Register::all() {
+        let row = trace.start().row(register);
+        let Some(last) = row.iter().rposition(|&byte| byte != 0) else { continue };
+        let digits: String = row[..=last].iter().map(|byte| format!("{byte:02x}")).collect();
+        text += &match register {
+            Register::X(n) => format!("x {n}: {digits}\n"),
+            Register::Y(n) => format!("y {n}: {digits}\n"),
+            Register::Z(n) => format!("z {n}: {digits}\n"),
+        };
+    }
+    trace.records().iter().for_each(|&record| text += &(print_call(record.into()) + "\n"));
+    text
+}
+
+/// The call that a line of text describes.
+///
+/// ```
+/// use amx::{Call, text::parse_call};
+/// assert_eq!(parse_call("raw 18 2 0x8000"), Ok(Call::new(18, 2, 0x8000)));
+/// assert_eq!(parse_call("vecint m2 mode=11 x=8"), Ok(Call::new(18, 2, 11 << 47 | 8 << 10)));
+/// assert!(parse_call("vecint m1 four").unwrap_err().contains("only with several vectors"));
+/// ```
+pub fn parse_call(line: &str) -> Result<Call, String> {
+    let mut words = line.split_whitespace();
+    let instruction = match words.next() {
+        Some("raw") => return raw(words.collect::<Vec<_>>().as_slice()),
+        Some("mac16") => Instruction::Mac16,
+        Some("vecint") => Instruction::Vecint,
+        Some(other) => return Err(format!("expected mac16, vecint, raw, or a line of the starting state (x:, y:, z N:), not {other:?}")),
+        None => return Err("expected mac16, vecint or raw".to_owned()),
+    };
+    let generation = match words.next() {
+        Some("m1") => Generation::M1,
+        Some("m2") => Generation::M2,
+        other => return Err(format!("expected m1 or m2 after {}, not {:?}", instruction.name(), other.unwrap_or("the end of the line"))),
+    };
+    let settings = words.map(setting).collect::<Result<Vec<_>, _>>()?;
+    let operand = operand(instruction, generation, &settings)?;
+    Ok(Call::new(instruction as u64, generation as u64, operand))
+}
+
+/// The line of text that describes a call; one that [`parse_call`] reads as the same call.
+///
+/// ```
+/// use amx::{Call, text::print_call};
+/// assert_eq!(print_call(Call::new(14, 1, 1 << 63 | 3 << 20 | 1 << 9)), "mac16 m1 vector z_row=3 bits=0x200");
+/// assert_eq!(print_call(Call::new(15, 1, 7)), "raw 15 1 0x7");
+/// ```
+pub fn print_call(call: Call) -> String {
+    let Call { instruction, generation, operand } = call;
+    let (Some(instruction), Some(generation)) = (Instruction::from_number(instruction), Generation::from_number(generation)) else {
+        return format!("raw {instruction} {generation} {operand:#x}");
+    };
+    let mut line = format!("{} {}", instruction.name(), generation.name());
+    let mut unnamed = operand;
+    for field in fields(instruction, generation, operand) {
+        unnamed &= !field.mask();
+        match field.of(operand) {
+            0 => {}
+            1 if field.max() == 1 => line += &format!(" {}", field.short),
+            value => line += &format!(" {}={value}", field.short),
+        }
+    }
+    if unnamed != 0 {
+        line += &format!(" bits={unnamed:#x}");
+    }
+    line
+}
+
+/// A number in decimal, or in hex after `0x`, or in binary after `0b`; `_` may stand between digits.
+///
+/// ```
+/// assert_eq!(amx::text::parse_number("0x8000_0000"), Ok(1 << 31));
+/// assert!(amx::text::parse_number("-1").is_err());
+/// ```
+pub fn parse_number(word: &str) -> Result<u64, String> {
+    let (digits, radix) = match word.as_bytes() {
+        [b'0', b'x', ..] => (&word[2..], 16),
+        [b'0', b'b', ..] => (&word[2..], 2),
+        _ => (word, 10),
+    };
+    let plain = digits.replace('_', "");
+    let number = if plain.starts_with('+') { None } else { u64::from_str_radix(&plain, radix).ok() };
+    number.ok_or_else(|| format!("expected a number of 64 bits (12, 0x1f or 0b101), not {word:?}"))
+}
+
+fn raw(words: &[&str]) -> Result<Call, String> {
+    match words {
+        [instruction, generation, operand] => Ok(Call::new(parse_number(instruction)?, parse_number(generation)?, parse_number(operand)?)),
+        _ => Err(format!("expected instruction, generation and operand after raw, not {} words", words.len())),
+    }
+}
+
+/// `name=value`, or a name alone for 1.
+fn setting(word: &str) -> Result<(&str, Option<u64>), String> {
+    match word.split_once('=') {
+        Some((name, value)) => Ok((name, Some(parse_number(value).map_err(|error| format!("{name}: {error}"))?))),
+        None => Ok((word, None)),
+    }
+}
+
+/// The operand of these settings. The table has the fields that decide on others first, so they are set in its order.
+fn operand(instruction: Instruction, generation: Generation, settings: &[(&str, Option<u64>)]) -> Result<u64, String> {
+    let mut ordered = settings.to_vec();
+    ordered.sort_by_key(|(name, _)| place(instruction, name));
+    let (mut operand, mut given) = (0, 0);
+    for (name, value) in ordered {
+        if name == "bits" {
+            operand |= unnamed(instruction, generation, operand, value)?;
+            continue;
+        }
+        let field = find(instruction, generation, operand, name).map_err(|error| error.to_string())?;
+        let value = match value {
+            Some(value) => value,
+            None if field.max() == 1 => 1,
+            None => return Err(format!("expected {name}=VALUE, 0 to {}", field.max())),
+        };
+        if given & field.mask() != 0 {
+            return Err(format!("{name} is given twice"));
+        }
+        given |= field.mask();
+        operand = with_field(instruction, generation, operand, name, value).map_err(|error| error.to_string())?;
+    }
+    Ok(operand)
+}
+
+/// The value of `bits=`, none of which may belong to a field.
+fn unnamed(instruction: Instruction, generation: Generation, operand: u64, value: Option<u64>) -> Result<u64, String> {
+    let bits = value.ok_or("expected bits=VALUE")?;
+    match fields(instruction, generation, operand).find(|field| bits & field.mask() != 0) {
+        Some(field) => Err(format!("bits={bits:#x} has a bit of {} ({}): set it by that name", field.short, field.bits())),
+        None => Ok(bits),
+    }
+}
+
+/// `x`, `y`: bytes from the first on. `x N`, `y N`, `z N`: bytes of one register.
+fn state_line(state: &mut State, given: &mut [bool], place: &str, digits: &str) -> Result<(), String> {
+    let wrong = || format!("expected x, x N, y, y N (N 0 to 7) or z N (0 to 63) before the colon, not {place:?}");
+    let words: Vec<&str> = place.split_whitespace().collect();
+    let (start, room) = match *words.as_slice() {
+        ["x"] => (Register::X(0).start(), 512),
+        ["y"] => (Register::Y(0).start(), 512),
+        [file @ ("x" | "y" | "z"), number] => {
+            let number = parse_number(number).ok().and_then(|number| usize::try_from(number).ok()).ok_or_else(wrong)?;
+            let register = match file {
+                "x" if number < 8 => Register::X(number),
+                "y" if number < 8 => Register::Y(number),
+                "z" if number < 64 => Register::Z(number),
+                _ => return Err(wrong()),
+            };
+            (register.start(), 64)
+        }
+        _ => return Err(wrong()),
+    };
+    let bytes = hex(digits)?;
+    if bytes.len() > room {
+        return Err(format!("{place} has {room} bytes, not {}", bytes.len()));
+    }
+    for (at, byte) in (start..).zip(bytes) {
+        if std::mem::replace(&mut given[at], true) {
+            return Err(format!("byte {} of {place} is given twice", at - start));
+        }
+        state.bytes_mut()[at] = byte;
+    }
+    Ok(())
+}
+
+fn hex(digits: &str) -> Result<Vec<u8>, String> {
+    let digits: Vec<char> = digits.chars().filter(|digit| !digit.is_whitespace()).collect();
+    let value = |digit: char| digit.to_digit(16).ok_or_else(|| format!("expected hex digits, not {digit:?}"));
+    if digits.len() % 2 == 1 {
+        return Err(format!("expected two hex digits to a byte, and there are {} digits", digits.len()));
+    }
+    digits.chunks(2).map(|pair| Ok((value(pair[0])? * 16 + value(pair[1])?) as u8)).collect()
+}
+
+#[cfg(test)]
+mod tests {
+    use super::*;
+    use crate::random::Random;
+
+    fn expected(text: &str) -> (usize, String) {
+        let error = assemble(text).unwrap_err();
+        (error.line, error.expected)
+    }
+
+    #[test]
+    fn there_and_back_is_exact() {
+        let mut random = Random::new(7);
+        for _ in 0..300 {
+            let mut trace = Trace::new(random.state());
+            for _ in 0..random.below(40) {
+                let call = random.call();
+                let record = Record { instruction: call.instruction as u8, generation: call.generation as u8, operand: call.operand };
+                trace.push(record).unwrap();
+            }
+            assert_eq!(assemble(&disassemble(&trace)), Ok(trace));
+        }
+    }
+
+    #[test]
+    fn every_bit_alone_and_every_pair_is_there_and_back() {
+        for (instruction, generation) in [(14, 1), (14, 2), (18, 1), (18, 2), (15, 1), (14, 0)] {
+            for (a, b) in (0..64).flat_map(|a| (0..=a).map(move |b| (a, b))) {
+                let call = Call::new(instruction, generation, 1 << a | 1 << b);
+                assert_eq!(parse_call(&print_call(call)), Ok(call));
+            }
+        }
+    }
+
+    #[test]
+    fn fields_may_come_in_any_order() {
+        let one = parse_call("vecint m2 z_row=31 broadcast_mode=6 four several widths=10 mode=2").unwrap();
+        let other = parse_call("vecint m2 mode=2 several four widths=10 broadcast_mode=6 z_row=31").unwrap();
+        assert_eq!(one, other);
+        assert_eq!(one.operand, 2 << 47 | 10 << 42 | 6 << 32 | 1 << 31 | 1 << 25 | 31 << 20);
+        assert_eq!(parse_call("mac16 m1 vector=0 z_i32=1").unwrap().operand, 1 << 62);
+    }
+
+    #[test]
+    fn the_starting_state_is_read() {
+        let trace = assemble(
+            "x: 01 02
+x 1: 0a
+y 7: ff
+
+# nothing
+z 0x3f: 00 5	0  # a comment: with a colon
+",
+        )
+        .unwrap();
+        assert_eq!(trace.start().x()[..3], [1, 2, 0]);
+        assert_eq!((trace.start().x()[64], trace.start().y()[448]), (10, 255));
+        assert_eq!(trace.start().row(Register::Z(63))[..2], [0, 0x50]);
+        assert_eq!(assemble("").unwrap(), Trace::new(State::new()));
+    }
+
+    #[test]
+    fn errors_name_the_line_and_what_was_expected() {
+        for (text, line, words) in [
+            ("\nmac15 m1", 2, "expected mac16, vecint, raw"),
+            ("mac16", 1, "expected m1 or m2 after mac16, not \"the end of the line\""),
+            ("mac16 m3", 1, "expected m1 or m2 after mac16, not \"m3\""),
+            ("mac16 m1 vector\nmac16 m1 vector vector", 2, "vector is given twice"),
+            ("mac16 m1 x_offset=1 x=1", 1, "x is given twice"),
+            ("mac16 m1 shift", 1, "expected shift=VALUE, 0 to 31"),
+            ("mac16 m1 shift=-1", 1, "shift: expected a number of 64 bits"),
+            ("mac16 m1 shift=", 1, "shift: expected a number"),
+            ("mac16 m1 z_row=64", 1, "z_row (bits 20..25) is 0 to 63, not 64"),
+            ("mac16 m1 rounding", 1, "mac16 has no field \"rounding\""),
+            ("vecint m1 several", 1, "several (bit 31) is there only on M2"),
+            ("vecint m2 several z_row=37", 1, "z_row (bits 20..24) is 0 to 31, not 37"),
+            ("vecint m2 rounding", 1, "rounding (bit 29) is there only in ALU mode 4"),
+            ("vecint m2 indexed mode=1", 1, "there only without an indexed load"),
+            ("vecint m2 bits=0x100", 1, "bits=0x100 has a bit of y (bits 0..8): set it by that name"),
+            ("vecint m2 bits", 1, "expected bits=VALUE"),
+            ("raw 18 2", 1, "expected instruction, generation and operand after raw, not 2 words"),
+            ("raw 18 2 0x10000000000000000", 1, "expected a number of 64 bits"),
+            ("raw 256 2 0", 1, "instruction and generation of a record are 0 to 255, not 256 and 2"),
+            ("mac16 m1\nx: 00", 2, "stand before the first step"),
+            ("x: 0", 1, "two hex digits to a byte, and there are 1 digits"),
+            ("x: 0g", 1, "expected hex digits, not 'g'"),
+            ("x: 00é0", 1, "expected hex digits, not 'é'"),
+            ("z: 00", 1, "expected x, x N, y, y N (N 0 to 7) or z N (0 to 63)"),
+            ("x 8: 00", 1, "not \"x 8\""),
+            ("z 64: 00", 1, "not \"z 64\""),
+            ("x: 00\nx 0: 00", 2, "byte 0 of x 0 is given twice"),
+        ] {
+            let (at, said) = expected(text);
+            assert!(at == line && said.contains(words), "{text:?}: line {at}: {said}");
+        }
+        let (line, said) = expected(&"mac16 m1\n".repeat(2_049));
+        assert_eq!((line, said.as_str()), (2_049, "a trace holds at most 2048 steps"));
+        let (_, said) = expected(&format!("z 1: {}", "00".repeat(65)));
+        assert_eq!(said, "z 1 has 64 bytes, not 65");
+    }
+}

@@ -1,0 +1,233 @@
+//! The `amx` program from outside: its texts, its files, its errors and their statuses.
+use amx::{Call, Record, State, Trace, random::Random, reference, text};
+use std::{
+    fs,
+    path::{Path, PathBuf},
+    process::{Command, Output},
+};
+
+/// A directory of the test's own, removed afterwards.
+struct Room(PathBuf);
+
+impl Room {
+    fn new(name: &str) -> Self {
+        let path = std::env::temp_dir().join(format!("amx-front-door-{}-{name}", std::process::id()));
+        fs::create_dir_all(&path).unwrap();
+        Room(path)
+    }
+
+    fn write(&self, name: &str, bytes: impl AsRef<[u8]>) -> PathBuf {
+        let path = self.0.join(name);
+        fs::write(&path, bytes).unwrap();
+        path
+    }
+
+    fn names(&self) -> Vec<String> {
+        let mut names: Vec<_> = fs::read_dir(&self.0).unwrap().map(|entry| entry.unwrap().file_name().into_string().unwrap()).collect();
+        names.sort();
+        names
+    }
+}
+
+impl Drop for Room {
+    fn drop(&mut self) {
+        let _ = fs::remove_dir_all(&self.0);
+    }
+}
+
+fn amx(arguments: &[&str]) -> Output {
+    Command::new(env!("CARGO_BIN_EXE_amx")).args(arguments).output().unwrap()
+}
+
+fn said(arguments: &[&str]) -> String {
+    let output = amx(arguments);
+    assert!(output.status.success(), "{arguments:?}: {}", String::from_utf8_lossy(&output.stderr));
+    assert!(output.stderr.is_empty());
+    String::from_utf8(output.stdout).unwrap()
+}
+
+/// An error: status 1, nothing on standard output, a message that has these words.
+fn refused(arguments: &[&str], words: &str) {
+    let output = amx(arguments);
+    let message = String::from_utf8(output.stderr).unwrap();
+    assert_eq!((output.status.code(), output.stdout.len()), (Some(1), 0), "{arguments:?}");
+    assert!(message.starts_with("amx: ") && message.contains(words), "{arguments:?}: {message}");
+}
+
+fn name(path: &Path) -> &str {
+    path.to_str().unwrap()
+}
+
+const SAMPLE: &str = "# the scope's sample\nx: 03\ny: 02\nmac16 m1 vector\nvecint m1 reserved=1\n";
+
+fn sample_text() -> String {
+    format!("step 0 done 32\nstep 1 no-op 1\nz 0 0600{}\nsteps 2\n", "0".repeat(124))
+}
+
+#[test]
+fn a_text_is_assembled_run_and_taken_apart() {
+    let room = Room::new("sample");
+    let text = room.write("sample.txt", SAMPLE);
+    let trace = room.0.join("sample.amx");
+    assert_eq!(said(&["asm", name(&text), "-o", name(&trace)]), "");
+    assert_eq!(fs::read(&trace).unwrap().len(), 5_148 + 32);
+    assert_eq!(reference::trace(&fs::read(&trace).unwrap()), sample_text());
+    assert_eq!(said(&["run", name(&trace)]), sample_text());
+    assert_eq!(said(&["run", name(&text)]), sample_text());
+    assert_eq!(said(&["dis", name(&trace)]), "x 0: 03\ny 0: 02\nmac16 m1 vector\nvecint m1 reserved=1\n");
+    assert_eq!(room.names(), ["sample.amx", "sample.txt"]);
+}
+
+#[test]
+fn any_trace_is_taken_apart_and_put_together_again() {
+    let room = Room::new("any");
+    let mut random = Random::new(5);
+    for records in [0, 1, 100, 2_048] {
+        let mut trace = Trace::new(random.state());
+        for _ in 0..records {
+            let Call { instruction, generation, operand } = random.call();
+            trace.push(Record { instruction: instruction as u8, generation: generation as u8, operand }).unwrap();
+        }
+        let file = room.write("one", trace.to_bytes());
+        let text = room.write("text", said(&["dis", name(&file)]));
+        let again = room.0.join("again");
+        said(&["asm", "-o", name(&again), name(&text)]);
+        assert!(fs::read(&file).unwrap() == fs::read(&again).unwrap());
+        assert!(said(&["run", name(&file)]) == reference::trace(&trace.to_bytes()));
+    }
+}
+
+#[test]
+fn an_error_writes_no_file_and_leaves_the_old_one() {
+    let room = Room::new("errors");
+    let wrong = room.write("wrong.txt", "x: 03\nmac16 m1 vector\nmac16 m1 shift=32\n");
+    let trace = room.0.join("trace");
+    let message = "wrong.txt, line 3: shift (bits 55..59) is 0 to 31, not 32";
+    refused(&["asm", name(&wrong), "-o", name(&trace)], message);
+    refused(&["run", name(&wrong)], message);
+    assert_eq!(room.names(), ["wrong.txt"]);
+    fs::write(&trace, "old").unwrap();
+    refused(&["asm", name(&wrong), "-o", name(&trace)], message);
+    assert_eq!(fs::read(&trace).unwrap(), b"old");
+
+    let text = room.write("sample.txt", SAMPLE);
+    refused(&["asm", name(&text), "-o", name(&room.0.join("none/trace"))], "none/trace: ");
+    refused(&["asm", name(&text), "-o", name(&room.0)], "directory");
+    refused(&["asm", name(&text), "-o", ""], "expected the name of a file");
+    refused(&["asm", name(&room.0.join("absent")), "-o", name(&trace)], "absent: ");
+    let not_text = room.write("not.txt", [0xff, 0xfe]);
+    refused(&["asm", name(&not_text), "-o", name(&trace)], "expected a text in UTF-8");
+    assert_eq!(room.names(), ["not.txt", "sample.txt", "trace", "wrong.txt"]);
+}
+
+#[cfg(unix)]
+#[test]
+fn a_link_to_a_trace_stays_a_link_and_a_pipe_is_written_to() {
+    let room = Room::new("links");
+    let text = room.write("sample.txt", SAMPLE);
+    let (trace, link) = (room.write("trace", "old"), room.0.join("link"));
+    std::os::unix::fs::symlink(&trace, &link).unwrap();
+    said(&["asm", name(&text), "-o", name(&link)]);
+    assert!(fs::symlink_metadata(&link).unwrap().is_symlink());
+    assert_eq!(fs::read(&trace).unwrap().len(), 5_148 + 32);
+    let piped = amx(&["asm", name(&text), "-o", "/dev/stdout"]);
+    assert!(piped.status.success() && piped.stdout == fs::read(&trace).unwrap());
+    assert_eq!(room.names(), ["link", "sample.txt", "trace"]);
+}
+
+#[test]
+fn damaged_traces_are_refused_by_number() {
+    let room = Room::new("damaged");
+    let mut trace = Trace::new(State::new());
+    trace.push(Record { instruction: 14, generation: 1, operand: 0 }).unwrap();
+    let sound = trace.to_bytes();
+    let damaged = |at: usize| {
+        let mut bytes = sound.clone();
+        bytes[at] ^= 1;
+        bytes
+    };
+    for (bytes, line) in [
+        (sound[..27].to_vec(), "file refused 5"),
+        (damaged(5), "file refused 6"),
+        (sound[..5_160].to_vec(), "file refused 6"),
+        (damaged(5_150), "file refused 7"),
+    ] {
+        let file = room.write("trace", bytes);
+        refused(&["dis", name(&file)], line);
+        let output = amx(&["run", name(&file)]);
+        assert_eq!((output.status.code(), String::from_utf8(output.stdout).unwrap()), (Some(1), format!("{line}\n")));
+    }
+}
+
+#[test]
+fn an_operand_is_explained() {
+    let text = said(&["explain", "18", "2", "0x8200_0000_8230_0040"]);
+    for line in [
+        "vecint on M2, operand 0x8200000082300040\n",
+        "  bit 63       x_signed         1    X is signed (1) or unsigned (0)\n",
+        "  bits 47..52  mode             0    ALU mode: z + ((x*y) >> s)\n",
+        "  bits 32..34  broadcast_mode   0    broadcast mode: X and Y of each vector\n",
+        "  bit 25       four             1    four vectors (1) or two (0)\n",
+        "  bits 20..24  z_row            3    Z row of the first vector (bit 24 ignored)\n",
+        "ignored and set: bit 57\n",
+        "ignored here: bits 9, 19, 24, 35..41, 46, 57\n",
+        "normal operand 0x8000000082300040\n",
+        "answer: done 128 lanes\n",
+    ] {
+        assert!(text.contains(line), "{line}in\n{text}");
+    }
+    assert_eq!(said(&["explain", "vecint m2 several four z_row=3 y=64 x_signed bits=0x200_0000_0000_0000"]), text);
+    assert!(said(&["explain", "18 1 0x40000000000000"]).ends_with("answer: no-op 1: bits 54..56 are not all 0\n"));
+    assert!(said(&["explain", "vecint", "m1", "x_shuffle=1"]).contains("no ignored bit is set\nanswer: refused 4: indexed loads"));
+    refused(&["explain", "15", "1", "0"], "refused 3: the instruction is not 14 (mac16) or 18 (vecint)");
+    refused(&["explain", "14", "1"], "expected instruction, generation and operand after explain, not 2 words");
+    refused(&["explain"], "expected explain INSTRUCTION GENERATION OPERAND");
+    refused(&["explain", "14", "1", "1e3"], "expected a number of 64 bits (12, 0x1f or 0b101), not \"1e3\"");
+    refused(&["explain", "mac17", "m1"], "expected mac16, vecint, raw or three numbers, not \"mac17\"");
+}
+
+#[test]
+fn lanes_are_shown() {
+    assert_eq!(
+        said(&["lanes", "vecint", "m1", "widths=3", "enable_mode=4", "enable_value=5", "z_row=9"]),
+        "done 5, lanes of 32 bits\nz 8   ###.............\nz 9   ##..............\n"
+    );
+    assert_eq!(said(&["lanes", "vecint m1 enable_mode=6"]), "done 0\n");
+    assert_eq!(said(&["lanes", "14", "3", "0"]), "refused 2: the generation is not 1 or 2\n");
+    assert_eq!(said(&["lanes", "14", "1", "0"]).lines().count(), 33);
+}
+
+/// The lanes that are shown are as many as the proved step says, whatever the step.
+#[test]
+fn lanes_are_those_that_the_step_counts() {
+    let mut random = Random::new(11);
+    for _ in 0..2_000 {
+        let call = random.call();
+        let grid = amx::lane_grid(call);
+        if let Some(count) = grid.lines().next().and_then(|line| line.strip_prefix("done ")) {
+            let count: usize = count.split(',').next().unwrap().parse().unwrap();
+            assert_eq!(grid.matches('#').count(), count, "{}", text::print_call(call));
+        }
+    }
+}
+
+#[test]
+fn help_says_all_of_it_and_wrong_words_are_refused() {
+    let help = said(&["--help"]);
+    for word in ["amx asm", "amx dis", "amx run", "amx explain", "amx lanes"] {
+        assert!(help.contains(word));
+    }
+    // every field by its name
+    for operand in [0, 1 << 31, 4 << 47, 1 << 53] {
+        for instruction in [amx::Instruction::Mac16, amx::Instruction::Vecint] {
+            for field in amx::fields(instruction, amx::Generation::M2, operand) {
+                assert!(help.split_whitespace().any(|word| word.trim_end_matches(';') == field.short), "{}", field.short);
+            }
+        }
+    }
+    refused(&[], "expected asm, dis, run, explain or lanes");
+    refused(&["assemble"], "expected asm, dis, run, explain or lanes, not \"assemble\"");
+    refused(&["asm", "text"], "expected asm TEXT -o TRACE");
+    refused(&["dis"], "expected dis TRACE");
+    refused(&["run"], "expected run FILE");
+}
