@@ -111,9 +111,9 @@ pub fn mac16_mask(mode: u64, n: u64) -> [bool; 32]
     out
 }
 
-// ---- counts
+// ---- counts, in bytes, of which the compiler adds 16 at a time
 
-fn one_if(on: bool) -> u64
+fn one_if(on: bool) -> u8
     ensures { λ r. ⌜ (r ≡ cond on 1 0) × (r ≤ 1) ⌝ }
 {
     if on { 1 } else { 0 }
@@ -123,11 +123,11 @@ fn one_if(on: bool) -> u64
 pub fn count32(on: &[bool; 32]) -> u64
     ensures { λ r. ⌜ (r ≡ count (λ i. getD (now (on .entry)) i false) 32) × (r ≤ 32) ⌝ }
 {
-    let mut n = 0u64;
+    let mut n = 0u8;
     for i in 0..32 {
         n += one_if(on[i]);
     }
-    n
+    n as u64
 }
 
 // A number of lanes, of 64 at most.
@@ -142,11 +142,11 @@ pub fn count_first(on: &[bool; 64], n: usize) -> u64
     ensures { λ r. ⌜ (r ≡ count (λ i. getD (now (on .entry)) i false) (cond (ltb n 64) n 64)) × (r ≤ 64) ⌝ }
 {
     let lanes = up_to_64(n);
-    let mut enabled = 0u64;
+    let mut enabled = 0u8;
     for k in 0..lanes {
         enabled += one_if(on[k]);
     }
-    enabled
+    enabled as u64
 }
 
 // ---- vecint: fields
