@@ -12,7 +12,7 @@ use Rattle.isa.specs.Operand.{bit, cleared}
 use Rattle.isa.specs.State.{stateLength}
 use Rattle.isa.specs.Mac16 as Mac16
 use Rattle.isa.specs.Vecint as Vecint
-use Rattle.isa.specs.Call.{Call, call, isMac16}
+use Rattle.isa.specs.Call.{Call, isMac16}
 use Rattle.isa.specs.Answers.{answerOf}
 
 -- bits first to last, ignored on a condition
