@@ -7,7 +7,7 @@ use mathlib.Core.Logic.{⊎-elim}
 use Prim.Native.Nat.{ℕ, zero, suc, _+_, _-_, _*_, _/_, _%_, _^_, _≤_, _<_}
 use native.Mathlib.Nat.{mod-lt, mod-eq-of-lt, zero-lt-suc, zero-mod}
 use native.Mathlib.Omega.{arith}
-use borrow.Author.Tests.{ne-eqb, lt-ltb, le-ltb}
+use borrow.Author.Tests.{ne-eqb, lt-ltb, le-ltb, not-true, not-false}
 use lib.Dec.{eqb}
 use lib.IntN.{ℤ, pos, negsuc, _+ℤ_}
 use lib.ListN.{set, getD}
@@ -20,7 +20,7 @@ use mir.Val.{SFits, toZ, ofZ}
 use Rattle.number.specs.Bytes.{span, byteAt, number, table, bytesOf}
 use Rattle.number.specs.Integers.{read, wrap, halfUnit, clamp, clampSigned}
 use Rattle.number.proofs.Bytes.{byteOf-zero}
-use Rattle.number.proofs.Range.{mag-add, mag-signed}
+use Rattle.number.proofs.Range.{mag-add}
 use Rattle.number.proofs.Tests.{pick-true, pick-false, lt-or-le}
 use Rattle.isa.specs.Effect.{applied}
 use Rattle.state.proofs.RunLoop.{run-outside}
@@ -79,14 +79,6 @@ module _ (z : ℤ) (f : SFits w32 z) where
 
 -- ---- the ends of the range
 
-not-true : (b : Bool) → not b ≡ true → b ≡ false
-not-true true e = sym e
-not-true false e = refl
-
-not-false : (b : Bool) → not b ≡ false → b ≡ true
-not-false true e = refl
-not-false false e = sym e
-
 module _ (below : Bool) (b : ℕ) where
   pub low-unsigned : not below ≡ true → pos 0 ≡ lowEnd below b
   low-unsigned t = sym (pick-false _ _ (not-true below t))
@@ -144,10 +136,6 @@ module _ (how : Reduce) (old v : ℤ) (ev : v ≡ shiftedBy how old) where
   value-left t = ev ∙ sym (pick-false _ _ t)
 
 -- ---- a lane
-
-pub mag-read : (sign : Bool) (b n : ℕ) → n < span b → mag (read sign b n) < span b
-mag-read true b n h = omega (arith, mag-signed b n h)
-mag-read false b n h = h
 
 pub cleared-is : (how : Reduce) (b z : ℕ) → how .clears ≡ true → 0 ≡ reduceTo b how z
 unfolding reduceTo

@@ -17,7 +17,7 @@ use mir.Facts.{toZ-ofZ}
 use borrow.Author.Tests.{lt-ltb, le-ltb}
 use Rattle.number.specs.Integers.{signed, read, kept, _≫_}
 use Rattle.number.proofs.Bytes.{getD-table, table-same}
-use Rattle.number.proofs.Range.{kept-same, mag-signed, mag-add}
+use Rattle.number.proofs.Range.{kept-same, mag-add, mag-read}
 use Rattle.number.proofs.Tests.{lt-or-le, pick-true, pick-false}
 use Rattle.sides.specs.Sides.{sideBy, termOf, keptTerms, valuesOf, signedBy, HoldsLanes}
 use Rattle.sides.specs.declared.SideForm.{SideForm}
@@ -26,12 +26,8 @@ use Rattle.sides.proofs.FirstLanes.{within, beyond}
 -- ---- bounds
 
 -- a 16-bit number, signed or not
-pub mag-read : (sign : Bool) (n : ℕ) → n < 65536 → mag (read sign 2 n) < 65536
-mag-read true n h = omega (arith, mag-signed 2 n h)
-mag-read false n h = h
-
 pub read-held : (sign : Bool) (n : ℕ) (z : ℤ) → n < 65536 → z ≡ read sign 2 n → (z ≡ read sign 2 n) × (mag z < 65536)
-read-held sign n z h e = (e, subst (λ (v : ℤ). mag v < 65536) (sym e) (mag-read sign n h))
+read-held sign n z h e = (e, subst (λ (v : ℤ). mag v < 65536) (sym e) (mag-read sign 2 n h))
 
 mag-negative : (n : ℕ) → mag (negℤ (pos n)) ≤ n
 mag-negative zero = omega arith

@@ -4,20 +4,13 @@ use mathlib.Core.Path.{_≡_, refl, sym, ap, _∙_}
 use mathlib.Core.Bool.{Bool, true, false, cond, not}
 use Prim.Native.Nat.{ℕ, _+_, _%_, _<_}
 use lib.IntN.{ℤ, negℤ, _+ℤ_}
+use borrow.Author.Tests.{not-true, not-false}
 use Rattle.number.specs.Bytes.{span}
 use Rattle.number.specs.Integers.{signed, wrap, kept, clamp, clampSigned}
 use Rattle.number.proofs.Modular.{adds-modulo, takes-modulo}
 use Rattle.number.proofs.Tests.{pick-true, pick-false}
 use Rattle.vecint.specs.declared.Alu.{Alu}
 use Rattle.vecint.specs.Accumulation.{summed, clampedSum, accumulated}
-
-not-true : (b : Bool) → not b ≡ true → b ≡ false
-not-true true e = sym e
-not-true false e = refl
-
-not-false : (b : Bool) → not b ≡ false → b ≡ true
-not-false true e = refl
-not-false false e = sym e
 
 module _ (how : Alu) (b z : ℕ) (t : ℤ) (r v : ℕ) (ev : v ≡ wrap (span b) t) where
   pub in-place : not (how .keeps) ≡ true → v ≡ wrap (span b) (summed how (signed b z) t)

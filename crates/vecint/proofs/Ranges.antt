@@ -12,7 +12,7 @@ use lib.Seq.{getD-take}
 use lib.Signed.{mag, shrZ, mag-shr}
 use Rattle.number.specs.Bytes.{span}
 use Rattle.number.specs.Integers.{read, kept, clampSigned}
-use Rattle.number.proofs.Range.{kept-same, mag-add, mag-mul, mag-signed}
+use Rattle.number.proofs.Range.{kept-same, mag-add, mag-mul, mag-read}
 use Rattle.number.proofs.Tests.{two, pick-false}
 use Rattle.isa.specs.Operand.{bit}
 use Rattle.isa.specs.State.{xBase, yBase, loaded}
@@ -57,10 +57,6 @@ outcome-is false how z t narrow hz ht =
     ap (λ (v : ℤ). cond (how .clamps) (clampSigned 2 v) (summed how z t)) (whole z t hz ht (how .keeps) (how .negates))
 
 -- ---- lanes and terms
-
-mag-read : (sign : Bool) (b n : ℕ) → n < span b → mag (read sign b n) < span b
-mag-read true b n h = omega (arith, mag-signed b n h)
-mag-read false b n h = h
 
 two-bytes : {b : ℕ} → (b ≡ 1) ⊎ (b ≡ 2) → (sign : Bool) (n : ℕ) → n < span b → mag (read sign b n) < 65536
 two-bytes {b} (inl e) sign n h = omega (arith, mag-read sign b n h, ap span e)

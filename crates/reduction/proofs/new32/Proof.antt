@@ -1,5 +1,6 @@
+use Rattle.number.proofs.Range.{mag-read}
 use mathlib.Core.Path.{_∙_}
-use Rattle.reduction.proofs.Cases.{cleared-is, reduced-is, mag-read}
+use Rattle.reduction.proofs.Cases.{cleared-is, reduced-is}
 use mir.Facts.{toZ-ofZ}
 use borrow.Author.Needs.{sfits-of}
 use mir.Syntax.{w64}
