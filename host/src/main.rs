@@ -1,4 +1,4 @@
-//! The front door: steps as text, trace files, and operands explained.
+//! The command `amx`: steps as text, trace files, and operands explained.
 use amx::{Call, Trace, explain, lane_grid, text};
 use std::{
     ffi::OsString,

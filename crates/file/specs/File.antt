@@ -115,10 +115,14 @@ cursor next end = record { next = next; end = end }
 abbrev pub recordOf : Call → Record
 recordOf c = record { instruction = c .instruction; generation = c .generation; operand = c .operand }
 
--- the step that a cursor is at, with the cursor behind it; End at or behind the end, and from step 2,048 on, which no accepted file has
+-- whether a cursor is at a step: not at or behind the end, and not from step 2,048 on, which no accepted file has
+abbrev pub atStep : Cursor → Bool
+atStep c = ltb (c .next) (c .end) && ltb (c .next) mostSteps
+
+-- the step that a cursor is at, with the cursor behind it
 abbrev pub readAs : List ℕ → Cursor → Read
 readAs file c =
-    cond (ltb (c .next) (c .end) && ltb (c .next) mostSteps)
+    cond (atStep c)
     (read.Record (recordOf (callAt file (c .next))) (cursor (c .next + 1) (c .end)))
     read.End
 

@@ -16,10 +16,10 @@ use Rattle.file.specs.declared.Cursor.{Cursor}
 use Rattle.file.specs.declared.Record.{Record}
 use Rattle.file.specs.declared.Read.{Read}
 use Rattle.file.specs.declared.Read.the-variants as read
-use Rattle.file.specs.File.{callAt, cursor, recordOf, readAs}
+use Rattle.file.specs.File.{atStep, callAt, cursor, recordOf, readAs}
 use Rattle.trace.specs.declared.Ran.{Ran}
 use Rattle.trace.specs.declared.Ran.the-variants.{Answered, End}
-use Rattle.trace.specs.Trace.{atStep, ranAs, ranState}
+use Rattle.trace.specs.Trace.{ranAs, ranState}
 
 abbrev callOf : Record → Call
 callOf r = call (r .instruction) (r .generation) (r .operand)

@@ -4,7 +4,7 @@ use mathlib.Core.Path.{_≡_}
 use mathlib.Core.Bool.{Bool, cond, not, _&&_}
 use mathlib.Core.List.{List, [], _++_, _∷_}
 use Prim.Native.Nat.{ℕ, zero, suc, _+_, _*_, _≤_}
-use lib.Dec.{eqb, leb, ltb}
+use lib.Dec.{eqb, leb}
 use lib.ListN.{length}
 use lib.Seq.{sets}
 use Rattle.number.specs.Bytes.{byteAt, table}
@@ -16,7 +16,7 @@ use Rattle.isa.specs.Swap.{swaps, Allowed}
 use Rattle.file.specs.declared.Opened.{Opened}
 use Rattle.file.specs.declared.Opened.the-variants.{Steps, Refused}
 use Rattle.file.specs.declared.Cursor.{Cursor}
-use Rattle.file.specs.File.{fileRefusalNumber, mostSteps, all, openedAs, callAt, calls, startOf, cursor}
+use Rattle.file.specs.File.{fileRefusalNumber, all, atStep, openedAs, callAt, calls, startOf, cursor}
 use Rattle.text.specs.Lines.{stepLine, zLine, stepsLine, refusedLine}
 use Rattle.trace.specs.declared.Printed.{Printed}
 use Rattle.trace.specs.declared.Printed.the-variants.{Text, NoRoom}
@@ -102,10 +102,6 @@ abbrev pub outAfter : List ℕ → List ℕ → List ℕ → List ℕ
 outAfter file state out = cond (hasRoom state out) (sets out 0 (textOf file)) out
 
 -- ---- one record
-
--- whether a cursor is at a step
-abbrev pub atStep : Cursor → Bool
-atStep c = ltb (c .next) (c .end) && ltb (c .next) mostSteps
 
 -- what running the record at a cursor answers, on a state of n bytes, and the state after it
 abbrev pub ranAs : List ℕ → ℕ → Cursor → Ran
