@@ -144,6 +144,10 @@ int main(void) {
     one("vecint, 16 16 32", VECINT, vec(0, 3), 6000);
     one("vecint, 8 8 32", VECINT, vec(0, 10), 3000);
     one("vecint, 8 8 16", VECINT, vec(0, 11), 3000);
+    one("vecint, 8 16 32", VECINT, vec(0, 12), 3000);
+    one("vecint, 16 16 16, first 5", VECINT, vec(0, 0) | 2ull << 38 | 5ull << 32, 6000);
+    one("vecint, 8 8 32, first 5", VECINT, vec(0, 10) | 2ull << 38 | 5ull << 32, 3000);
+    one("vecint, 8 16 32, odd lanes", VECINT, vec(0, 12) | 1ull << 32, 3000);
     one("vecint, 16 16 16, four vectors", VECINT, vec(0, 0) | 1ull << 31 | 1ull << 25, 2000);
     one("vecint, reducing 32 to 16", VECINT, vec(4, 3) | 7ull << 58 | 3ull << 29, 6000);
     one("vecint, reducing 32 to 32", VECINT, vec(4, 4) | 7ull << 58 | 3ull << 29, 6000);

@@ -173,6 +173,18 @@ static int lane_mask(int32_t *mask, unsigned enable, int n, int count, int times
     return on;
 }
 
+// The mask at a second lane width, of count lanes: a lane is on where both masks have it.
+static int also_masked(int32_t *mask, unsigned enable, int n, int count, int lanes) {
+    int32_t second[64];
+    lane_mask(second, enable, n, count, lanes / count);
+    int on = 0;
+    for (int k = 0; k < lanes; k++) {
+        mask[k] &= second[k];
+        on -= mask[k];
+    }
+    return on;
+}
+
 // The numbers that a vector's lanes take from 64 bytes of X or Y.
 static void numbers(int32_t *restrict to, const uint8_t *bytes, int width, bool sign, int lanes, int only) {
     int32_t lane[64];
@@ -286,8 +298,10 @@ static uint64_t vecint(uint8_t *state, unsigned generation, uint64_t op) {
     bool several = generation == 2 && bit(op, 31);
     struct vecint v = decode(op, mode, several);
     int32_t x[64], y[64], term[64], mask[64];
+    unsigned enable = several ? 1 : field(op, 38, 40), value = field(op, 32, 37);
     int count = mode == 4 ? v.lanes : 64 / v.x;
-    int on = lane_mask(mask, several ? 1 : field(op, 38, 40), field(op, 32, 37), count, v.lanes / count);
+    int on = lane_mask(mask, enable, value, count, v.lanes / count);
+    if (v.x != v.y) on = also_masked(mask, enable, value, 64 / v.y, v.lanes);
     unsigned xoffset = field(op, 10, 18), yoffset = field(op, 0, 8);
     for (int row = v.row; row < 64; row += v.stride, xoffset += v.xstep, yoffset += v.ystep) {
         uint8_t *z = state + 1024 + 64 * row;

@@ -1,7 +1,7 @@
 #!/usr/bin/env python3
 """The stored traces and the text that each must print.
 
-A second source: both instructions, the answers and the trace file are written here from the scope paper alone, and share nothing with the crates.
+A second source: both instructions, the answers and the trace file are written here from the scope paper and its changes alone, and share nothing with the crates.
 Run from the top of the repository, it writes data/, args and stdout of the programs crates/amx_trace and crates/traces anew.
 """
 import pathlib
@@ -123,7 +123,11 @@ def vector(state, op, mode, row, x, y, x_lane, y_lane, enable, value, zero):
     x_width, y_width, z_width = (16, 16, 16) if mode in (5, 6) else WIDTHS.get(bits(op, 42, 4), (16, 16, 16))
     narrow = min(x_width, y_width)
     r = z_width // narrow
-    on = [k for k in range(512 // narrow) if vecint_enable(enable, value, k * narrow // x_width, 512 // x_width)]
+
+    def allowed(k, width):
+        return vecint_enable(enable, value, k * narrow // width, 512 // width)
+
+    on = [k for k in range(512 // narrow) if allowed(k, x_width) and allowed(k, y_width)]
     for k in on:
         at, lane = row - row % r + k % r, k // r
         a = number(x, x_width, k * narrow // x_width if x_lane is None else x_lane, bits(op, 63, 1))
@@ -240,6 +244,13 @@ def answers(rng):
     return trace(rng.randbytes(STATE), steps)
 
 
+def mixed_widths(rng):
+    """Widths 12 and 13, whose mask is read at two lane widths, in every enable mode and at the values where lanes begin, end or change side."""
+    values = (0, 1, 2, 3, 4, 5, 6, 16, 31, 32, 33, 40, 63)
+    steps = [call(VECINT, 1, widths=w, mode=m, value=n, z=(4 * m + n) % 64, x=n) for w in (12, 13) for m in range(8) for n in values]
+    return trace(rng.randbytes(STATE), steps)
+
+
 def any_step(rng):
     """Random bits, but seldom a step that the table turns away, and seldom one that forgets the old Z."""
     op, generation = rng.getrandbits(64), 1 + rng.getrandbits(1)
@@ -278,6 +289,7 @@ def stored():
     yield "changed_back", trace(rng.randbytes(STATE), [there, back])
     yield "answers", answers(rng)
     yield "most_steps", trace(rng.randbytes(STATE), [any_step(rng) for _ in range(2048)])
+    yield "mixed_widths", mixed_widths(rng)
     yield from damaged()
 
 

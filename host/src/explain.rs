@@ -101,7 +101,11 @@ impl Explanation {
         match field.name {
             "x_enable_value" => Some(mac16_mask(get("x_enable_mode"), value)),
             "y_enable_value" => Some(mac16_mask(get("y_enable_mode"), value)),
-            "enable_value" => Some(vecint_mask(get("enable_mode"), value)),
+            "enable_value" => {
+                let two = has_two_masks(get("alu_mode"), get("lane_widths"), get("enable_mode"), value);
+                let both = if two { " at X's lane width and at Y's, both needed" } else { "" };
+                Some(vecint_mask(get("enable_mode"), value) + both)
+            }
             "broadcast_mode" => Some(broadcast(value).to_owned()),
             "alu_mode" => Some(operation(value).to_owned()),
             "skip_z" => Some(format!("the lane becomes {}", mac16_operation(get("skip_x"), get("skip_y"), value))),
@@ -129,6 +133,11 @@ fn vecint_mask(mode: u64, n: u64) -> String {
         (5, n) => mask(3, n),
         _ => mask(mode, n),
     }
+}
+
+/// Whether X's mask and Y's differ: in widths 12 and 13, by a mode and a value that choose among the lanes.
+fn has_two_masks(alu_mode: u64, widths: u64, mode: u64, n: u64) -> bool {
+    matches!(widths, 12 | 13) && !matches!(alu_mode, 4..=6) && matches!((mode, n), (0, 1 | 2) | (2..=5, 1..))
 }
 
 fn mask(mode: u64, n: u64) -> String {

@@ -250,7 +250,8 @@ fn vecint_lanes(generation: u64, operand: u64) -> Vec<Lane> {
         for k in 0..512 / narrower {
             let (mut x, mut y) = (k * narrower / x_bits, k * narrower / y_bits);
             if let Some((mode, n)) = enable(generation, operand) {
-                if !vecint_mask(mode, n, x, 512 / x_bits) {
+                // read at X's lane width and at Y's: both must allow the lane
+                if !vecint_mask(mode, n, x, 512 / x_bits) || !vecint_mask(mode, n, y, 512 / y_bits) {
                     continue;
                 }
                 if mode == 1 {

@@ -177,6 +177,16 @@ fn an_operand_is_explained() {
         assert!(text.contains(line), "{line}in\n{text}");
     }
     assert_eq!(said(&["explain", "vecint m2 several four z_row=3 y=64 x_signed bits=0x200_0000_0000_0000"]), text);
+    for (step, mask) in [
+        ("vecint m1 widths=12 enable_value=1", "odd lanes at X's lane width and at Y's, both needed\n"),
+        ("vecint m1 widths=13 enable_mode=5 enable_value=3", "the last 3 lanes at X's lane width and at Y's, both needed\n"),
+        ("vecint m1 widths=12 enable_value=4", "all lanes, and X reads as 0\n"),
+        ("vecint m1 widths=11 enable_value=1", "odd lanes\n"),
+        ("vecint m1 mode=5 widths=12 enable_value=1", "odd lanes\n"),
+    ] {
+        let text = said(&["explain", step]);
+        assert!(text.contains(&format!("the lane of Y that is broadcast: {mask}")), "{mask}in\n{text}");
+    }
     assert!(said(&["explain", "18 1 0x40000000000000"]).ends_with("answer: no-op 1: bits 54..56 are not all 0\n"));
     assert!(said(&["explain", "vecint", "m1", "x_shuffle=1"]).contains("no ignored bit is set\nanswer: refused 4: indexed loads"));
     refused(&["explain", "15", "1", "0"], "refused 3: the instruction is not 14 (mac16) or 18 (vecint)");
@@ -191,6 +201,12 @@ fn lanes_are_shown() {
     assert_eq!(
         said(&["lanes", "vecint", "m1", "widths=3", "enable_mode=4", "enable_value=5", "z_row=9"]),
         "done 5, lanes of 32 bits\nz 8   ###.............\nz 9   ##..............\n"
+    );
+    // widths 12 and 13: allowed by X's mask and by Y's
+    assert_eq!(said(&["lanes", "vecint m1 widths=12 enable_value=1 z_row=9"]), "done 16, lanes of 32 bits\nz 11  ################\n");
+    assert_eq!(
+        said(&["lanes", "vecint m1 widths=13 enable_mode=2 enable_value=5"]),
+        "done 5, lanes of 32 bits\nz 0   ##..............\nz 1   #...............\nz 2   #...............\nz 3   #...............\n"
     );
     assert_eq!(said(&["lanes", "vecint m1 enable_mode=6"]), "done 0\n");
     assert_eq!(said(&["lanes", "14", "3", "0"]), "refused 2: the generation is not 1 or 2\n");

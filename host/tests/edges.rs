@@ -114,6 +114,46 @@ fn a_quartet_takes_the_place_of_the_low_bits_of_z_row() -> Test {
 }
 
 #[test]
+fn widths_12_and_13_need_both_masks() -> Test {
+    let masked = |widths, mode, value| Vecint::new(11, Vectors::One)?.lane_widths(widths)?.enable_mode(mode)?.enable_value(value);
+    // odd lanes: k = 3, 7, 11 and so on, which are the whole of the fourth row
+    let ones = state(&(0..64).map(|lane| (X, lane, Bits8, 1)).collect::<Vec<_>>());
+    let (after, answer) = stepped(&ones, Call::vecint(M2, masked(12, 0, 1)?));
+    assert_eq!(answer, Answer::Done(16));
+    for (row, lane) in (0..64).flat_map(|row| (0..16).map(move |lane| (row, lane))) {
+        assert_eq!(after.lane(Register::Z(row), lane, Bits32), u32::from(row == 3));
+    }
+    // each mask has its own lane count; values 3, 4 and 5 and enable mode 1 enable all
+    for (widths, mode, value, lanes) in [
+        (12, 2, 40, 40),
+        (12, 5, 40, 40),
+        (13, 0, 2, 16),
+        (13, 2, 5, 5),
+        (13, 3, 5, 5),
+        (12, 0, 3, 64),
+        (13, 0, 4, 64),
+        (12, 0, 5, 64),
+        (13, 1, 9, 64),
+    ] {
+        assert_eq!(stepped(&ones, Call::vecint(M2, masked(widths, mode, value)?)).1, Answer::Done(lanes), "{widths} {mode} {value}");
+    }
+    Ok(())
+}
+
+#[test]
+fn odd_lanes_of_widths_12_leave_row_1_to_others() -> Test {
+    let odd = Call::vecint(M1, Vecint::new(0, Vectors::One)?.lane_widths(12)?.enable_value(1)?);
+    let stored = Call::mac16(M1, Mac16::new().vector(true).skip_z(true).z_row(1)?);
+    let start = State::from_bytes(std::array::from_fn(|at| (at * 37 % 251) as u8));
+    let one = stepped(&stepped(&start, odd).0, stored).0;
+    let other = stepped(&stepped(&start, stored).0, odd).0;
+    assert!(one == other);
+    let changed: Vec<_> = (0..64).filter(|&row| one.row(Register::Z(row)) != start.row(Register::Z(row))).collect();
+    assert_eq!(changed, [1, 3]);
+    Ok(())
+}
+
+#[test]
 fn four_vectors_go_to_four_rows() -> Test {
     // Z row 37 has bit 25 set, which makes the vectors four
     let call = Call::new(18, 2, 1 << 31 | 37 << 20);

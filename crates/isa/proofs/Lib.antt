@@ -12,3 +12,4 @@ pub mod NormalOperand
 pub mod Places
 pub mod Edges
 pub mod Guards
+pub mod MixedWidths

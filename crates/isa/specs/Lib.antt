@@ -13,3 +13,4 @@ pub mod Demands
 pub mod Places
 pub mod Edges
 pub mod Guards
+pub mod MixedWidths
