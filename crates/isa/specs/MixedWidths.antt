@@ -20,11 +20,11 @@ use Rattle.isa.specs.Guards.{Pin, pin, answered}
 
 -- ---- lanes
 
--- vecint on generation 1 with lane widths, enable mode and value
+-- the operand of vecint with these lane widths, enable mode and value, and nothing else
 abbrev masking : ℕ → ℕ → ℕ → ℕ
 masking widths enable value = widths * 2 ^ 42 + enable * 2 ^ 38 + value * 2 ^ 32
 
--- lane k comes to an enabled lane of Z
+-- on generation 1, lane k comes to an enabled lane of Z
 abbrev written : ℕ → ℕ → Bool
 written op k = Vecint.vecint 1 op .on (vecintRow 1 op 0 k) (vecintLane op k)
 
