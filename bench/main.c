@@ -1,5 +1,5 @@
 // The proved unit against the C version, built for the baseline target and for this machine, in one run.
-// First all do the same random steps, the last version with the normal operand, and every answer and byte is compared; then forms of both instructions are timed, and a mixed list.
+// First all do the same random steps, the last version with the normal operand, and every answer and byte is compared; then forms of both instructions are timed, and mixed lists.
 // The buffers start equal and are not cleared between the runs. Ratios are of medians of interleaved runs; below 1 the proved unit is faster.
 #include <stdint.h>
 #include <stdio.h>
@@ -39,21 +39,24 @@ static void fill(int ends) {
     }
 }
 
-// an operand that vecint mostly does, with the modes and enables that have a meaning of their own drawn more often than others
-static uint64_t vecint_operand(void) {
-    uint64_t mode = below(13), operand = put(put(next(), 53, 56, 0), 47, 52, mode);
-    if (mode != 4) operand = put(operand, 27, 30, 0);
+static int indexed(struct call c) { return c.instruction == VECINT && c.operand >> 53 & 1; }
+
+// an operand that vecint mostly does, `loads` of four with an indexed load; modes and enables that have a meaning of their own are drawn more often than others
+static uint64_t vecint_operand(unsigned loads) {
+    uint64_t mode = below(13), operand = put(next(), 54, 56, 0);
+    operand = below(4) < loads ? put(operand, 53, 53, 1) : put(operand, 47, 53, mode);
+    if ((operand >> 47 & 127) != 4) operand = put(operand, 27, 30, 0);
     if (below(2)) operand = put(operand, 32, 37, below(8));
     if (below(3) == 0) operand = put(operand, 38, 40, 0);
     if (below(3) == 0) operand = put(operand, 58, 62, below(2) * 15);
     return operand;
 }
 
-static struct call draw(void) {
+static struct call draw(unsigned loads) {
     static const uint64_t instruction[] = {0, 13, 15, 17, 19, (1ull << 32) + MAC16, (1ull << 8) + VECINT};
     static const uint64_t generation[] = {0, 3, 4, (1ull << 32) + 1, (1ull << 8) + 2};
     struct call c = {LENGTH, below(3) ? VECINT : MAC16, 1 + below(2), next()};
-    if (c.instruction == VECINT && below(16)) c.operand = vecint_operand();
+    if (c.instruction == VECINT && below(16)) c.operand = vecint_operand(loads);
     if (below(64) == 0) c.instruction = below(8) ? instruction[below(7)] : next();
     if (below(64) == 0) c.generation = below(8) ? generation[below(5)] : next();
     if (below(64) == 0) c.length = below(2) ? below(ROOM) : LENGTH - 1 + 2 * below(2);
@@ -72,7 +75,7 @@ static void compare(void) {
     int done = 0, no_op[4] = {0}, refused[5] = {0};
     for (int n = 0; n < RANDOM_STEPS; n++) {
         if (n % 64 == 0) fill(n / 64 % 2);
-        struct call c = draw(), normal = c;
+        struct call c = draw(1), normal = c;
         normal.operand = amx_normal_operand(c.instruction, c.generation, c.operand);
         uint64_t answer = run(0, c);
         for (int v = 1; v < VERSIONS; v++)
@@ -124,14 +127,18 @@ static void one(const char *form, uint64_t instruction, uint64_t operand, int ti
 
 static uint64_t vec(uint64_t mode, uint64_t width) { return 1ull << 63 | mode << 47 | width << 42 | 1ull << 26; }
 
-static void mixed(void) {
+// X or Y by indices of 4 bits into its register 3
+static uint64_t vec_indexed(uint64_t y, uint64_t width) { return vec(0, width) | 1ull << 53 | 3ull << 49 | 1ull << 48 | y << 47; }
+
+// done steps without an indexed load, or with one in each
+static void mixed(const char *form, unsigned loads) {
     static struct call list[MIXED];
     for (int n = 0; n < MIXED;) {
-        list[n] = draw();
-        if (run(1, list[n]) < NO_OP) n++;
+        list[n] = draw(loads);
+        if (indexed(list[n]) == (loads > 0) && run(1, list[n]) < NO_OP) n++;
     }
     fill(0);
-    measure("both, 4,000 mixed steps", list, MIXED, 1);
+    measure(form, list, MIXED, 1);
 }
 
 int main(void) {
@@ -154,5 +161,8 @@ int main(void) {
     one("vecint, reducing 8 to 8", VECINT, vec(4, 9) | 7ull << 58 | 3ull << 29, 6000);
     one("vecint, reducing 16 to 16", VECINT, vec(4, 0) | 7ull << 58 | 3ull << 29, 6000);
     one("vecint, mode 5", VECINT, vec(5, 0), 6000);
-    mixed();
+    mixed("both, 4,000 mixed steps", 0);
+    one("vecint, 16 16 16, indexed X", VECINT, vec_indexed(0, 0), 6000);
+    one("vecint, 8 8 32, indexed Y", VECINT, vec_indexed(1, 10), 3000);
+    mixed("vecint, 4,000 indexed steps", 4);
 }

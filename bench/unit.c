@@ -114,6 +114,8 @@ struct vecint {
     int xlane, ylane;           // the lane used for every lane, or -1
     bool xzero, yzero, force;   // X or Y read as 0, output 0
     bool xsigned, ysigned;
+    uint8_t xindex, yindex;     // the bits of an index, or 0 where the load is not an indexed one
+    uint8_t from;               // the register that indices choose from
 };
 
 static void widths(struct vecint *v, unsigned number) {
@@ -137,6 +139,12 @@ static struct vecint decode(uint64_t op, unsigned mode, bool several) {
     widths(&v, field(op, 42, 45));
     v.stride = !several ? 64 : bit(op, 25) ? 16 : 32;
     v.row = (field(op, 20, 25) & (v.stride - 1)) & -v.rows;
+    if (bit(op, 53)) {
+        int bits = bit(op, 48) ? 4 : 2;
+        v.from = field(op, 49, 51);
+        if (bit(op, 47)) v.yindex = bits, v.ystep = 8 * bits / v.y;
+        else v.xindex = bits, v.xstep = 8 * bits / v.x;
+    }
     unsigned enable = field(op, 38, 40), n = field(op, 32, 37);
     if (several) {
         unsigned broadcast = n & 7;
@@ -183,6 +191,28 @@ static int also_masked(int32_t *mask, unsigned enable, int n, int count, int lan
         on -= mask[k];
     }
     return on;
+}
+
+// Each element becomes the one of a register that its index names. The indices are packed, lowest bits first.
+static inline void pick(uint8_t *bytes, const uint8_t *restrict from, int index, int width) {
+    uint64_t packed[4];
+    uint8_t picked[64];
+    memcpy(packed, bytes, sizeof packed);
+    for (int k = 0; k < 64 / width; k++) {
+        unsigned n = packed[k * index / 64] >> k * index % 64 & ((1 << index) - 1);
+        memcpy(picked + width * k, from + width * n, width);
+    }
+    memcpy(bytes, picked, sizeof picked);
+}
+
+// A vector's 64 bytes of X or Y.
+static void load_side(uint8_t *to, const uint8_t *ring, unsigned offset, int index, unsigned from, int width) {
+    load(to, ring, offset & 511);
+    ring += 64 * from;
+    if (index == 4 && width == 1) pick(to, ring, 4, 1);
+    else if (index == 4) pick(to, ring, 4, 2);
+    else if (index == 2 && width == 1) pick(to, ring, 2, 1);
+    else if (index == 2) pick(to, ring, 2, 2);
 }
 
 // The numbers that a vector's lanes take from 64 bytes of X or Y.
@@ -294,7 +324,7 @@ static uint64_t vecint(uint8_t *state, unsigned generation, uint64_t op) {
     unsigned mode = bit(op, 53) ? 0 : field(op, 47, 52);
     if ((mode >= 7 && mode <= 9) || mode > 12) return NO_OP + 2;
     if (mode >= 10 && generation == 1) return NO_OP + 3;
-    if (bit(op, 53) || (mode != 4 && field(op, 27, 30))) return REFUSED + 4;
+    if (mode != 4 && field(op, 27, 30)) return REFUSED + 4;
     bool several = generation == 2 && bit(op, 31);
     struct vecint v = decode(op, mode, several);
     int32_t x[64], y[64], term[64], mask[64];
@@ -310,8 +340,8 @@ static uint64_t vecint(uint8_t *state, unsigned generation, uint64_t op) {
             continue;
         }
         uint8_t xbytes[64] = {0}, ybytes[64] = {0};
-        if (!v.xzero) load(xbytes, state, xoffset & 511);
-        if (!v.yzero) load(ybytes, state + 512, yoffset & 511);
+        if (!v.xzero) load_side(xbytes, state, xoffset, v.xindex, v.from, v.x);
+        if (!v.yzero) load_side(ybytes, state + 512, yoffset, v.yindex, v.from, v.y);
         numbers(x, xbytes, v.x, v.xsigned, v.lanes, v.xlane);
         numbers(y, ybytes, v.y, v.ysigned, v.lanes, v.ylane);
         if (v.force) memset(term, 0, sizeof term);

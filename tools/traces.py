@@ -91,6 +91,23 @@ WIDTHS = {3: (16, 16, 32), 10: (8, 8, 32), 11: (8, 8, 16), 12: (8, 16, 32), 13: 
 SATURATIONS = {3: (32, 16), 4: (32, 32), 9: (8, 8), 10: (32, 8), 11: (16, 8)}
 
 
+def alu_mode(op):
+    return 0 if bits(op, 53, 1) else bits(op, 47, 6)
+
+
+def side(state, op, base, offset, width, v, repeats):
+    """The 64 bytes that X (base 0) or Y (base 512) gives to vector v: those at the offset, or the elements of the named register that the indices there choose."""
+    indexed = bits(op, 53, 1) and base == 512 * bits(op, 47, 1)
+    index = 4 if bits(op, 48, 1) else 2
+    advance = 0 if repeats else 64 * index // width if indexed else 64
+    loaded = load(state, base, offset + advance * v)
+    if not indexed:
+        return loaded
+    register, packed = load(state, base, 64 * bits(op, 49, 3)), int.from_bytes(loaded, "little")
+    elements = (number(register, width, bits(packed, index * k, index), False) for k in range(512 // width))
+    return b"".join(n.to_bytes(width // 8, "little") for n in elements)
+
+
 def result(mode, x, y, z, s):
     if mode in (5, 6):
         term = x * y + 16384 >> 15
@@ -118,9 +135,9 @@ def vector_4(state, op, row, enable, value, zero):
     return len(on)
 
 
-def vector(state, op, mode, row, x, y, x_lane, y_lane, enable, value, zero):
+def vector(state, op, mode, widths, row, x, y, x_lane, y_lane, enable, value, zero):
     """One vector: x and y are 64 bytes each; x_lane and y_lane, where given, serve every lane."""
-    x_width, y_width, z_width = (16, 16, 16) if mode in (5, 6) else WIDTHS.get(bits(op, 42, 4), (16, 16, 16))
+    x_width, y_width, z_width = widths
     narrow = min(x_width, y_width)
     r = z_width // narrow
 
@@ -138,7 +155,8 @@ def vector(state, op, mode, row, x, y, x_lane, y_lane, enable, value, zero):
 
 
 def vecint(state, generation, op):
-    mode, z = bits(op, 47, 6), bits(op, 20, 6)
+    mode, z = alu_mode(op), bits(op, 20, 6)
+    widths = (16, 16, 16) if mode in (5, 6) else WIDTHS.get(bits(op, 42, 4), (16, 16, 16))
     if generation == 2 and bits(op, 31, 1):
         stride = 16 if bits(op, 25, 1) else 32
         rows, enable, value, cast = range(z % stride, 64, stride), 0, 0, bits(op, 32, 3)
@@ -152,9 +170,9 @@ def vecint(state, generation, op):
         if mode == 4:
             count += vector_4(state, op, row, enable, value, cast == 1)
             continue
-        x = bytes(64) if cast == 4 else load(state, 0, bits(op, 10, 9) + (0 if cast in (2, 6) else 64 * v))
-        y = bytes(64) if cast == 5 else load(state, 512, bits(op, 0, 9) + (0 if cast in (3, 7) else 64 * v))
-        count += vector(state, op, mode, row, x, y, x_lane, y_lane, enable, value, cast == 1)
+        x = bytes(64) if cast == 4 else side(state, op, 0, bits(op, 10, 9), widths[0], v, cast in (2, 6))
+        y = bytes(64) if cast == 5 else side(state, op, 512, bits(op, 0, 9), widths[1], v, cast in (3, 7))
+        count += vector(state, op, mode, widths, row, x, y, x_lane, y_lane, enable, value, cast == 1)
     return count
 
 
@@ -167,14 +185,14 @@ def step(state, instruction, generation, op):
         return "refused 3"
     if instruction == MAC16:
         return f"done {mac16(state, op)}"
-    mode = 0 if bits(op, 53, 1) else bits(op, 47, 6)
+    mode = alu_mode(op)
     if bits(op, 54, 3):
         return "no-op 1"
     if mode in (7, 8, 9) or mode > 12:
         return "no-op 2"
     if mode in (10, 11, 12) and generation == 1:
         return "no-op 3"
-    if bits(op, 53, 1) or mode != 4 and bits(op, 27, 4):
+    if mode != 4 and bits(op, 27, 4):
         return "refused 4"
     return f"done {vecint(state, generation, op)}"
 
@@ -205,7 +223,9 @@ def trace(state, steps):
 
 PLACES = {
     MAC16: dict(vector=63, wide=62, shift=55, x_mode=46, x_value=41, y_mode=37, y_value=32, z=20, x=10, y=0),
-    VECINT: dict(x_signed=63, shift=58, alu=47, widths=42, mode=38, value=32, several=31, saturate=30, rounding=29, y_signed=26, z=20, x=10, y=0),
+    VECINT: dict(
+        x_signed=63, shift=58, indexed=53, ignored=52, register=49, index_4_bits=48, index_y=47, alu=47, widths=42, mode=38, value=32,
+        several=31, saturate=30, rounding=29, y_signed=26, four=25, z=20, x=10, y=0),
 }
 
 
@@ -227,7 +247,7 @@ def product():
     steps = [call(MAC16, 1, x_mode=2, x_value=4, y_mode=2, y_value=4, x=64 * k, y=64 * k) for k in range(4)]
     steps += [call(VECINT, 1, **bias)]  # M1 has no such mode
     steps += [call(VECINT, 2, z=2 * j, **bias) for j in range(4)]
-    steps += [(VECINT, 2, 1 << 53)]  # an indexed load
+    steps += [(VECINT, 2, 1 << 27)]  # a shuffle
     return trace(state, steps + [call(VECINT, 2, z=2 * j, **halve) for j in range(4)])
 
 
@@ -249,6 +269,24 @@ def mixed_widths(rng):
     values = (0, 1, 2, 3, 4, 5, 6, 16, 31, 32, 33, 40, 63)
     steps = [call(VECINT, 1, widths=w, mode=m, value=n, z=(4 * m + n) % 64, x=n) for w in (12, 13) for m in range(8) for n in values]
     return trace(rng.randbytes(STATE), steps)
+
+
+def indexed_loads(rng):
+    """Indexed loads of both sides by indices of both widths, at random places: widths, vectors, broadcast modes, masks, registers. At the end, each bit that is ignored or turns one away."""
+    widths = (0, 3, 10, 11, 12, 13)
+    two, four = dict(several=1), dict(several=1, four=1)
+    masks = ((0, 2), (0, 3), (0, 4), (0, 5), (1, 33), (2, 5), (5, 40), (6, 0))
+    cases = [(generation, dict(vectors, widths=w)) for generation, vectors in ((1, {}), (2, two), (2, four)) for w in widths]
+    cases += [(2, dict(vectors, value=cast)) for vectors in (two, four) for cast in range(8)]
+    cases += [(1, dict(mode=m, value=n)) for m, n in masks] + [(2, dict(register=r)) for r in range(8)]
+    steps = []
+    for form in (dict(indexed=1, index_4_bits=four_bits, index_y=y) for four_bits in (0, 1) for y in (0, 1)):
+        for generation, fields in cases:
+            form["widths"] = rng.choice(widths)
+            for name, n in dict(ignored=2, register=8, x_signed=2, y_signed=2, shift=4, z=32, x=512, y=512).items():
+                form[name] = rng.randrange(n)
+            steps += [call(VECINT, generation, **{**form, **fields})]
+    return trace(rng.randbytes(STATE), steps + [(VECINT, 2, 1 << 53 | 1 << b) for b in (27, 28, 29, 30, 52, 54, 55, 56)])
 
 
 def any_step(rng):
@@ -290,6 +328,7 @@ def stored():
     yield "answers", answers(rng)
     yield "most_steps", trace(rng.randbytes(STATE), [any_step(rng) for _ in range(2048)])
     yield "mixed_widths", mixed_widths(rng)
+    yield "indexed_loads", indexed_loads(rng)
     yield from damaged()
 
 

@@ -43,7 +43,7 @@ pub enum Refusal {
     Generation = 2,
     /// The instruction is not 14 or 18.
     Instruction = 3,
-    /// vecint, an indexed load, or a shuffle outside ALU mode 4.
+    /// vecint, a shuffle outside ALU mode 4.
     NotCovered = 4,
 }
 
@@ -117,7 +117,7 @@ impl fmt::Display for Refusal {
             Refusal::StateLength => "the state is not of 5,120 bytes",
             Refusal::Generation => "the generation is not 1 or 2",
             Refusal::Instruction => "the instruction is not 14 (mac16) or 18 (vecint)",
-            Refusal::NotCovered => "indexed loads (bit 53) and shuffles (bits 27..30 outside ALU mode 4) are not covered",
+            Refusal::NotCovered => "shuffles (bits 27..30 outside ALU mode 4) are not covered",
         })
     }
 }

@@ -98,6 +98,7 @@ impl Explanation {
     /// What a field's value says, where the number alone does not.
     fn words(&self, field: &Field, value: u64) -> Option<String> {
         let get = |name| self.fields.iter().find(|(field, _)| field.name == name).map_or(0, |&(_, value)| value);
+        let (side, offset) = if get("index_y") == 1 { ("Y", "y_offset") } else { ("X", "x_offset") };
         match field.name {
             "x_enable_value" => Some(mac16_mask(get("x_enable_mode"), value)),
             "y_enable_value" => Some(mac16_mask(get("y_enable_mode"), value)),
@@ -108,6 +109,15 @@ impl Explanation {
             }
             "broadcast_mode" => Some(broadcast(value).to_owned()),
             "alu_mode" => Some(operation(value).to_owned()),
+            "indexed" if value == 1 => Some(format!("done as ALU mode 0, {}", operation(0))),
+            "index_register" => Some(format!("bytes {}..{} of {side}", 64 * value, 64 * value + 63)),
+            "index_4_bits" => Some("lowest bits first".to_owned()),
+            "index_y" => Some(format!("element k of {side} is the register's element that the k-th index names")),
+            name if name == offset && get("indexed") == 1 => {
+                let index_bits = if get("index_4_bits") == 1 { 4 } else { 2 };
+                let repeats = if side == "X" { [2, 6] } else { [3, 7] }.contains(&get("broadcast_mode"));
+                Some(indices(64 * index_bits / lane_bits(side, get("lane_widths")), get("several") == 1, repeats))
+            }
             "skip_z" => Some(format!("the lane becomes {}", mac16_operation(get("skip_x"), get("skip_y"), value))),
             "lane_widths" => Some(widths(get("alu_mode"), value).to_owned()),
             _ => None,
@@ -161,6 +171,24 @@ fn broadcast(mode: u64) -> &'static str {
         5 => "Y reads as 0",
         6 => "the same X for all vectors, and its lane 0 for all lanes",
         _ => "the same Y for all vectors, and its lane 0 for all lanes",
+    }
+}
+
+/// Where the indices of an indexed load are, vector by vector: as many bytes as the offset advances by.
+fn indices(bytes: u64, several: bool, repeats: bool) -> String {
+    let others = match (several, repeats) {
+        (false, _) => String::new(),
+        (true, false) => format!(", and for each next vector {bytes} bytes on"),
+        (true, true) => ", the same for all vectors".to_owned(),
+    };
+    format!("{bytes} bytes of indices are there{others}")
+}
+
+/// The bits of a lane of X or Y in an indexed load.
+fn lane_bits(side: &str, widths: u64) -> u64 {
+    match (side, widths) {
+        (_, 10 | 11) | ("X", 12) | ("Y", 13) => 8,
+        _ => 16,
     }
 }
 

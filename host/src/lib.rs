@@ -35,6 +35,6 @@ mod trace;
 pub use answer::{Answer, Reason, Refusal};
 pub use call::{Call, Generation, Instruction, normal, run, step, step_bytes};
 pub use explain::{Explanation, explain, lane_grid};
-pub use operand::{Field, FieldError, Mac16, Vecint, Vectors, When, fields, with_field};
+pub use operand::{Field, FieldError, IndexBits, Mac16, Side, Vecint, Vectors, When, fields, with_field};
 pub use state::{Register, STATE_LENGTH, State, Width};
 pub use trace::{FileRefusal, NoRecord, Record, Trace, TraceFull};

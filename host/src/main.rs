@@ -30,6 +30,7 @@ A text has one step in a line; what follows a # is a comment:
   mac16 m1 vector x=0 y=64 z_row=3    instruction, m1 or m2, fields by name; fields not named are 0
   vecint m2 mode=0 widths=3 x_signed  a field of one bit may stand alone for 1
   vecint m2 several four z_row=5      two or four vectors: several, and four
+  vecint m1 indexed index_register=3  X by the indices at its offset, into its register 3; index_y for Y
   vecint m1 bits=0x200                bits that have no name
   raw 18 2 0x80000000                 a step by its numbers, any
 
@@ -37,7 +38,8 @@ A text has one step in a line; what follows a # is a comment:
   vecint fields:  mode widths shift z_row x y x_signed y_signed
                   one vector: enable_mode enable_value; several (m2): several four broadcast_mode
                   in mode 4, for x_signed and y_signed: z_signed rounding saturate saturate_signed
-                  not covered by the unit: x_shuffle y_shuffle indexed index_register index_4_bits index_y reserved
+                  an indexed load, for mode: indexed index_y index_4_bits index_register
+                  not covered by the unit: x_shuffle y_shuffle reserved
 
 An error names the line and what was expected, ends with status 1 and writes no file.
 ";

@@ -104,7 +104,7 @@ static MAC16: [Field; 15] = [
 // `several`, `indexed` and `alu_mode` decide which others are there, so they come first.
 static VECINT: [Field; 25] = [
     field("several", 31, 31, OnM2, "several vectors (1) or one (0)"),
-    field("indexed", 53, 53, Always, "indexed load, which is not covered"),
+    field("indexed", 53, 53, Always, "indexed load (1) or plain load (0)"),
     short(field("alu_mode", 47, 52, NotIndexed, "ALU mode"), "mode"),
     field("x_signed", 63, 63, NotMode4, "X is signed (1) or unsigned (0)"),
     field("z_signed", 63, 63, Mode4, "Z is signed (1) or unsigned (0)"),
@@ -256,9 +256,9 @@ impl std::error::Error for FieldError {}
 #[derive(Clone, Copy, Debug, Default, PartialEq, Eq, Hash)]
 pub struct Mac16(u64);
 
-/// An operand of vecint, built field by field. ALU mode and vectors are given first: they decide which fields there are.
+/// An operand of vecint, built field by field. ALU mode or indexed load, and vectors, are given first: they decide which fields there are.
 ///
-/// Shuffles and indexed loads are not covered, and not here; [`with_field`] has them.
+/// Shuffles are not covered, and not here; [`with_field`] has them.
 ///
 /// ```
 /// use amx::{Vecint, Vectors};
@@ -280,6 +280,35 @@ pub enum Vectors {
     Two,
     /// Four, at Z row and each 16 rows on, with a broadcast mode.
     Four,
+}
+
+impl Vectors {
+    /// `several` and `four`.
+    fn bits(self) -> u64 {
+        match self {
+            Vectors::One => 0,
+            Vectors::Two => 1 << 31,
+            Vectors::Four => 1 << 31 | 1 << 25,
+        }
+    }
+}
+
+/// X or Y: the side that an indexed load is of. The discriminant is the field's value.
+#[derive(Clone, Copy, Debug, PartialEq, Eq, Hash)]
+pub enum Side {
+    /// X: the indices are at the X offset, and choose from a register of X.
+    X = 0,
+    /// Y, likewise.
+    Y = 1,
+}
+
+/// The width of an indexed load's indices. The discriminant is the field's value.
+#[derive(Clone, Copy, Debug, PartialEq, Eq, Hash)]
+pub enum IndexBits {
+    /// Two bits: an index names one of the register's first 4 elements.
+    Two = 0,
+    /// Four bits: one of its first 16.
+    Four = 1,
 }
 
 impl Mac16 {
@@ -343,12 +372,33 @@ setters! {
 impl Vecint {
     /// An ALU mode, 0 to 63 (bits 47..52), and how many vectors; all other fields 0. Modes 7 to 9 and those above 12 are no-ops.
     pub fn new(alu_mode: u64, vectors: Vectors) -> Result<Self, FieldError> {
-        let several = match vectors {
-            Vectors::One => 0,
-            Vectors::Two => 1 << 31,
-            Vectors::Four => 1 << 31 | 1 << 25,
-        };
-        Vecint(several).set("alu_mode", alu_mode)
+        Vecint(vectors.bits()).set("alu_mode", alu_mode)
+    }
+
+    /// An indexed load of X or of Y from one of that side's registers, 0 to 7 (bits 49..51); all other fields 0. It is done as ALU mode 0 is,
+    /// and has no mode of its own.
+    ///
+    /// The bytes at the side's offset hold packed indices, lowest bits first. Element k of the side is the register's element that the k-th
+    /// index names. With several vectors the offset advances by the bytes of a vector's indices, and not by 64.
+    ///
+    /// ```
+    /// use amx::{Answer, Call, Generation, IndexBits, Register, Side, State, Vecint, Vectors, Width, step};
+    /// let mut state = State::new();
+    /// state.set_lane(Register::X(3), 13, Width::Bits16, 7); // an element of the table,
+    /// state.set_lane(Register::X(0), 0, Width::Bits8, 0xd0); // the indices 0 and 13,
+    /// state.set_lane(Register::Y(0), 1, Width::Bits16, 2); // and what lane 1 is multiplied by
+    ///
+    /// let fields = Vecint::indexed(Side::X, IndexBits::Four, 3, Vectors::One)?;
+    /// assert_eq!(fields.operand(), 1 << 53 | 3 << 49 | 1 << 48);
+    /// assert_eq!(step(&mut state, Call::vecint(Generation::M1, fields)), Answer::Done(32));
+    /// assert_eq!(state.lane(Register::Z(0), 1, Width::Bits16), 14);
+    ///
+    /// let error = Vecint::indexed(Side::X, IndexBits::Four, 8, Vectors::One).unwrap_err();
+    /// assert_eq!(error.to_string(), "index_register (bits 49..51) is 0 to 7, not 8");
+    /// # Ok::<(), amx::FieldError>(())
+    /// ```
+    pub fn indexed(side: Side, indices: IndexBits, register: u64, vectors: Vectors) -> Result<Self, FieldError> {
+        Vecint(vectors.bits() | 1 << 53 | (indices as u64) << 48 | (side as u64) << 47).set("index_register", register)
     }
 
     /// The operand.
@@ -376,8 +426,8 @@ setters! {
     enable_value(u64) "Enable value or the broadcast Y lane, 0 to 63: bits 32..37, with one vector."
     broadcast_mode(u64) "Broadcast mode, 0 to 7: bits 32..34, with several vectors."
     z_row(u64) "Z row: 0 to 63, bits 20..25; with several vectors that of the first, 0 to 31, bits 20..24."
-    x_offset(u64) "X offset in bytes, 0 to 511: bits 10..18."
-    y_offset(u64) "Y offset in bytes, 0 to 511: bits 0..8."
+    x_offset(u64) "X offset in bytes, 0 to 511: bits 10..18. An indexed load of X has its indices there."
+    y_offset(u64) "Y offset in bytes, 0 to 511: bits 0..8. An indexed load of Y has its indices there."
 }
 
 #[cfg(test)]
@@ -429,6 +479,14 @@ mod tests {
         assert_eq!(Vecint::new(0, Vectors::Two).unwrap().z_row(31).unwrap().operand(), 1 << 31 | 31 << 20);
         assert_eq!(Vecint::new(0, Vectors::Two).unwrap().z_row(32).unwrap_err().to_string(), "z_row (bits 20..24) is 0 to 31, not 32");
         assert!(Vecint::new(64, Vectors::One).is_err());
+
+        let indexed = Vecint::indexed(Side::Y, IndexBits::Four, 5, Vectors::Four).unwrap();
+        assert_eq!(indexed.operand(), 1 << 53 | 5 << 49 | 1 << 48 | 1 << 47 | 1 << 31 | 1 << 25);
+        assert_eq!(indexed.y_signed(true).unwrap().z_row(9).unwrap().operand(), indexed.operand() | 1 << 26 | 9 << 20);
+        assert_eq!(Vecint::indexed(Side::X, IndexBits::Two, 2, Vectors::One).unwrap().operand(), 1 << 53 | 2 << 49);
+        // register 1 stands where ALU mode 4 would, and is no mode
+        let register_1 = Vecint::indexed(Side::X, IndexBits::Two, 1, Vectors::One).unwrap();
+        assert!(register_1.rounding(true).is_err() && register_1.x_signed(true).is_ok());
     }
 
     #[test]

@@ -93,22 +93,24 @@ impl Random {
         operand
     }
 
-    /// An operand of vecint. Bits that would make it a no-op or refused are mostly clear; modes, widths and enable values that have a
-    /// meaning of their own come more often than others.
+    /// An operand of vecint, one in four with an indexed load. Bits that would make it a no-op or refused are mostly clear; modes, widths
+    /// and enable values that have a meaning of their own come more often than others.
     pub fn vecint(&mut self) -> u64 {
         let mut operand = self.bits();
         if self.once_in(24) {
             return operand;
         }
-        let mode = if self.once_in(16) { self.below(64) } else { self.pick(&[0, 1, 2, 3, 4, 5, 6, 10, 11, 12]) };
-        operand = put(operand, 47, 52, mode);
+        let indexed = self.once_in(4);
+        operand = put(operand, 53, 53, indexed.into());
+        if !indexed {
+            let mode = if self.once_in(16) { self.below(64) } else { self.pick(&[0, 1, 2, 3, 4, 5, 6, 10, 11, 12]) };
+            operand = put(operand, 47, 52, mode);
+        }
         if !self.once_in(24) {
             operand = put(operand, 54, 56, 0);
         }
-        if !self.once_in(24) {
-            operand = put(operand, 53, 53, 0);
-        }
-        if mode != 4 && !self.once_in(16) {
+        let mode_4 = operand >> 47 & 127 == 4;
+        if !mode_4 && !self.once_in(16) {
             operand = put(operand, 27, 30, 0);
         }
         if self.once_in(2) {

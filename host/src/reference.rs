@@ -54,7 +54,7 @@ fn not_done(length: usize, instruction: u64, generation: u64, operand: u64) -> O
     if instruction == 14 {
         return None;
     }
-    let mode = if bit(operand, 53) { 0 } else { bits(operand, 47, 52) };
+    let mode = alu_mode(operand);
     if bits(operand, 54, 56) != 0 {
         return Some(NO_OP + 1);
     }
@@ -64,7 +64,7 @@ fn not_done(length: usize, instruction: u64, generation: u64, operand: u64) -> O
     if matches!(mode, 10..=12) && generation == 1 {
         return Some(NO_OP + 3);
     }
-    if bit(operand, 53) || (mode != 4 && bits(operand, 27, 30) != 0) {
+    if mode != 4 && bits(operand, 27, 30) != 0 {
         return Some(REFUSED + 4);
     }
     None
@@ -86,7 +86,7 @@ pub fn only_adds(instruction: u64, generation: u64, operand: u64) -> bool {
     }
     match instruction {
         14 => !bit(operand, 27),
-        _ => matches!(bits(operand, 47, 52), 0..=3 | 11 | 12) && !output_forced_to_0(generation, operand),
+        _ => matches!(alu_mode(operand), 0..=3 | 11 | 12) && !output_forced_to_0(generation, operand),
     }
 }
 
@@ -177,9 +177,14 @@ fn mac16(state: &mut [u8], enabled: &[Lane], operand: u64) {
     }
 }
 
+/// vecint's ALU mode: 0 in an indexed load, whose own fields stand in the mode's bits.
+fn alu_mode(operand: u64) -> usize {
+    if bit(operand, 53) { 0 } else { bits(operand, 47, 52) }
+}
+
 /// The bits of an X, a Y and a Z lane, outside mode 4.
 fn widths(operand: u64) -> (usize, usize, usize) {
-    match (bits(operand, 47, 52), bits(operand, 42, 45)) {
+    match (alu_mode(operand), bits(operand, 42, 45)) {
         (5 | 6, _) => (16, 16, 16),
         (_, 3) => (16, 16, 32),
         (_, 10) => (8, 8, 32),
@@ -230,7 +235,7 @@ fn vecint_mask(mode: usize, n: usize, i: usize, count: usize) -> bool {
 }
 
 fn vecint_lanes(generation: u64, operand: u64) -> Vec<Lane> {
-    let (x_bits, y_bits, z_bits) = if bits(operand, 47, 52) == 4 {
+    let (x_bits, y_bits, z_bits) = if alu_mode(operand) == 4 {
         // Z alone: its own width masks it, and it has no group of rows
         let z = reduced_widths(operand).0;
         (z, z, z)
@@ -269,8 +274,35 @@ fn vecint_lanes(generation: u64, operand: u64) -> Vec<Lane> {
     enabled
 }
 
+/// The bits of an index and the register that is indexed, where the load of Y (or X) is an indexed one.
+fn indexed(operand: u64, y: bool) -> Option<(usize, usize)> {
+    (bit(operand, 53) && bit(operand, 47) == y).then(|| (if bit(operand, 48) { 4 } else { 2 }, bits(operand, 49, 51)))
+}
+
+/// Element `k` is the register's element that the `k`-th index names. Indices are packed, lowest bits first.
+fn picked(register: &[u8], indices: &[u8; 64], index_bits: usize, lane_bytes: usize) -> [u8; 64] {
+    let index = |k: usize| usize::from(indices[k * index_bits / 8]) >> (k * index_bits % 8) & ((1 << index_bits) - 1);
+    std::array::from_fn(|i| register[lane_bytes * index(i / lane_bytes) + i % lane_bytes])
+}
+
+/// What X or Y gives to each vector; `same` is one register for all of them.
+fn loaded(ring: &[u8], offset: usize, lane_bits: usize, same: bool, indexed: Option<(usize, usize)>) -> [[u8; 64]; 4] {
+    let advance = match indexed {
+        _ if same => 0,
+        Some((index_bits, _)) => 64 * index_bits / lane_bits,
+        None => 64,
+    };
+    std::array::from_fn(|vector| {
+        let bytes = load(ring, offset + advance * vector);
+        match indexed {
+            Some((index_bits, register)) => picked(&ring[64 * register..][..64], &bytes, index_bits, lane_bits / 8),
+            None => bytes,
+        }
+    })
+}
+
 fn vecint(state: &mut [u8], enabled: &[Lane], generation: u64, operand: u64) {
-    let mode = bits(operand, 47, 52);
+    let mode = alu_mode(operand);
     let shift = bits(operand, 58, 62);
     if output_forced_to_0(generation, operand) {
         return enabled.iter().for_each(|lane| store(state, lane, 0));
@@ -284,11 +316,10 @@ fn vecint(state: &mut [u8], enabled: &[Lane], generation: u64, operand: u64) {
     let (broadcast, enable) = (broadcast(generation, operand), enable(generation, operand));
     let x_read_as_0 = broadcast == Some(4) || enable == Some((0, 4));
     let y_read_as_0 = broadcast == Some(5) || enable == Some((0, 5));
-    let x_advance = if matches!(broadcast, Some(2 | 6)) { 0 } else { 64 };
-    let y_advance = if matches!(broadcast, Some(3 | 7)) { 0 } else { 64 };
-    let x: [_; 4] = std::array::from_fn(|vector| load(&state[..512], bits(operand, 10, 18) + x_advance * vector));
-    let y: [_; 4] = std::array::from_fn(|vector| load(&state[512..Z], bits(operand, 0, 8) + y_advance * vector));
+    let (same_x, same_y) = (matches!(broadcast, Some(2 | 6)), matches!(broadcast, Some(3 | 7)));
     let (x_bits, y_bits, _) = widths(operand);
+    let x = loaded(&state[..512], bits(operand, 10, 18), x_bits, same_x, indexed(operand, false));
+    let y = loaded(&state[512..Z], bits(operand, 0, 8), y_bits, same_y, indexed(operand, true));
     let (x_bytes, y_bytes) = (x_bits / 8, y_bits / 8);
     for lane in enabled {
         let x = if x_read_as_0 { 0 } else { number(&x[lane.vector][x_bytes * lane.x..][..x_bytes], bit(operand, 63)) };
@@ -341,8 +372,11 @@ fn mac16_ignored(operand: u64) -> Vec<(u32, u32)> {
 }
 
 fn vecint_ignored(generation: u64, operand: u64) -> Vec<(u32, u32)> {
-    let mode = bits(operand, 47, 52);
+    let mode = alu_mode(operand);
     let mut ranges = vec![(57, 57), (46, 46), (41, 41), (19, 19), (9, 9)];
+    if bit(operand, 53) {
+        ranges.push((52, 52));
+    }
     if generation == 1 {
         ranges.push((31, 31));
     }

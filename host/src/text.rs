@@ -8,6 +8,7 @@
 //! z 3: ff7f                                       # bytes of row 3 of Z; all others are 0
 //! mac16 m1 vector x=0 y=64 z_row=3 shift=2        # steps: instruction, generation, fields by name; fields not named are 0
 //! vecint m2 several four widths=3 broadcast_mode=2
+//! vecint m1 indexed index_4_bits index_register=3 # X by indices of 4 bits into its register 3; index_y for Y
 //! vecint m1 shift=4 bits=0x200                    # bits= sets bits that have no name
 //! raw 18 2 0x8000000000000000                     # a step by its numbers, any
 //! ```
@@ -289,6 +290,18 @@ mod tests {
     }
 
     #[test]
+    fn an_indexed_load_is_told_by_its_fields() {
+        let line = "vecint m2 several indexed index_register=3 index_4_bits index_y widths=12 y=500 bits=0x10000000000000";
+        let call = Call::new(18, 2, 1 << 53 | 1 << 52 | 3 << 49 | 1 << 48 | 1 << 47 | 12 << 42 | 1 << 31 | 500);
+        assert_eq!(parse_call(line), Ok(call));
+        assert_eq!(print_call(call), line);
+        for fields in 0..64 {
+            let call = Call::new(18, 1, 1 << 53 | fields << 47);
+            assert_eq!(parse_call(&print_call(call)), Ok(call));
+        }
+    }
+
+    #[test]
     fn the_starting_state_is_read() {
         let trace = assemble(
             "x: 01 02
@@ -323,6 +336,10 @@ z 0x3f: 00 5	0  # a comment: with a colon
             ("vecint m2 several z_row=37", 1, "z_row (bits 20..24) is 0 to 31, not 37"),
             ("vecint m2 rounding", 1, "rounding (bit 29) is there only in ALU mode 4"),
             ("vecint m2 indexed mode=1", 1, "there only without an indexed load"),
+            ("vecint m1 index_y", 1, "index_y (bit 47) is there only with an indexed load (bit 53 set)"),
+            ("vecint m1 indexed index_register=8", 1, "index_register (bits 49..51) is 0 to 7, not 8"),
+            ("vecint m1 indexed rounding", 1, "rounding (bit 29) is there only in ALU mode 4"),
+            ("vecint m1 indexed bits=0x800000000000", 1, "has a bit of index_y (bit 47): set it by that name"),
             ("vecint m2 bits=0x100", 1, "bits=0x100 has a bit of y (bits 0..8): set it by that name"),
             ("vecint m2 bits", 1, "expected bits=VALUE"),
             ("raw 18 2", 1, "expected instruction, generation and operand after raw, not 2 words"),

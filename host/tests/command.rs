@@ -188,12 +188,69 @@ fn an_operand_is_explained() {
         assert!(text.contains(&format!("the lane of Y that is broadcast: {mask}")), "{mask}in\n{text}");
     }
     assert!(said(&["explain", "18 1 0x40000000000000"]).ends_with("answer: no-op 1: bits 54..56 are not all 0\n"));
-    assert!(said(&["explain", "vecint", "m1", "x_shuffle=1"]).contains("no ignored bit is set\nanswer: refused 4: indexed loads"));
+    assert!(
+        said(&["explain", "vecint", "m1", "x_shuffle=1"])
+            .ends_with("no ignored bit is set\nanswer: refused 4: shuffles (bits 27..30 outside ALU mode 4) are not covered\n")
+    );
     refused(&["explain", "15", "1", "0"], "refused 3: the instruction is not 14 (mac16) or 18 (vecint)");
     refused(&["explain", "14", "1"], "expected instruction, generation and operand after explain, not 2 words");
     refused(&["explain"], "expected explain INSTRUCTION GENERATION OPERAND");
     refused(&["explain", "14", "1", "1e3"], "expected a number of 64 bits (12, 0x1f or 0b101), not \"1e3\"");
     refused(&["explain", "mac17", "m1"], "expected mac16, vecint, raw or three numbers, not \"mac17\"");
+}
+
+#[test]
+fn an_indexed_load_is_explained() {
+    let text = said(&["explain", "vecint m2 several four indexed index_register=3 index_4_bits widths=11 x=200 bits=0x10000000000000"]);
+    for line in [
+        "  bit 53       indexed          1    indexed load (1) or plain load (0): done as ALU mode 0, z + ((x*y) >> s)\n",
+        "  bits 49..51  index_register   3    register to index into: bytes 192..255 of X\n",
+        "  bit 48       index_4_bits     1    indices of 4 bits (1) or 2 bits (0): lowest bits first\n",
+        "  bit 47       index_y          0    indexed load of Y (1) or X (0): element k of X is the register's element that the k-th index names\n",
+        "  bits 10..18  x                200  X offset in bytes: 32 bytes of indices are there, and for each next vector 32 bytes on\n",
+        "  bits 0..8    y                0    Y offset in bytes\n",
+        "ignored and set: bit 52\n",
+        "ignored here: bits 9, 19..20, 24, 35..41, 46, 52, 57\n",
+        "normal operand 0x00272c0082032000\n",
+        "answer: done 256 lanes\n",
+    ] {
+        assert!(text.contains(line), "{line}in\n{text}");
+    }
+    for (step, side, indices) in [
+        ("vecint m1 indexed index_y index_register=7 y=500", "Y", "8 bytes of indices are there"),
+        ("vecint m1 indexed index_y index_4_bits widths=12", "Y", "16 bytes of indices are there"),
+        ("vecint m1 indexed index_y index_4_bits widths=13", "Y", "32 bytes of indices are there"),
+        ("vecint m2 several indexed widths=12 broadcast_mode=6", "X", "16 bytes of indices are there, the same for all vectors"),
+        ("vecint m2 several indexed index_y broadcast_mode=3", "Y", "8 bytes of indices are there, the same for all vectors"),
+        ("vecint m2 several indexed broadcast_mode=3", "X", "8 bytes of indices are there, and for each next vector 8 bytes on"),
+    ] {
+        let (text, words) = (said(&["explain", step]), format!("{side} offset in bytes: {indices}\n"));
+        assert!(text.contains(&words), "{words}in\n{text}");
+    }
+    // no mode's words, though the register's bits read as mode 4; and bit 52 is the mode's without an indexed load
+    let text = said(&["explain", "vecint m1 indexed index_register=1 widths=3"]);
+    assert!(text.contains("X 16, Y 16, Z 32 bits\n") && text.ends_with("answer: done 32 lanes\n"), "{text}");
+    assert!(said(&["explain", "vecint m1"]).contains("ignored here: bits 9, 19, 31, 41, 46, 57\n"));
+    assert!(said(&["explain", "vecint m2 indexed y_shuffle=2"]).contains("answer: refused 4: shuffles"));
+    assert!(said(&["explain", "vecint m2 indexed y_shuffle=2 reserved=4"]).contains("answer: no-op 1: bits 54..56"));
+}
+
+#[test]
+fn indexed_loads_are_assembled_run_and_taken_apart() {
+    let room = Room::new("indexed");
+    // X by the indices 3, 2, 1 and 0 and so on into register 1, times 1 in Y; and a shuffle, which is not covered
+    let steps = "vecint m1 indexed index_register=1\nvecint m2 indexed index_4_bits index_y y_shuffle=1\n";
+    let text = room.write("indexed.txt", format!("x: 1b\nx 1: 0a00 1400 1e00 2800\ny: 0100 0100 0100 0100\n{steps}"));
+    let trace = room.0.join("indexed.amx");
+    said(&["asm", name(&text), "-o", name(&trace)]);
+    let expected = format!("step 0 done 32\nstep 1 refused 4\nz 0 28001e0014000a00{}\nsteps 2\n", "0".repeat(112));
+    assert_eq!(said(&["run", name(&trace)]), expected);
+    assert_eq!(reference::trace(&fs::read(&trace).unwrap()), expected);
+    assert!(said(&["dis", name(&trace)]).ends_with(steps));
+    assert!(
+        said(&["lanes", "vecint m1 indexed index_register=1 widths=12 enable_value=1"])
+            .starts_with("done 16, lanes of 32 bits\nz 3   ####")
+    );
 }
 
 #[test]

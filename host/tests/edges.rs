@@ -1,5 +1,8 @@
 //! The scope's numbers at the edges, on the proved unit and on the reference.
-use amx::{Answer, Call, Generation::M1, Generation::M2, Mac16, Register, State, Trace, Vecint, Vectors, Width, reference, step};
+use amx::{
+    Answer, Call, FieldError, Generation::M1, Generation::M2, IndexBits, Mac16, Reason, Refusal, Register, Side, State, Trace, Vecint,
+    Vectors, Width, normal, reference, step,
+};
 use std::error::Error;
 
 type Test = Result<(), Box<dyn Error>>;
@@ -186,6 +189,212 @@ fn a_broadcast_lane_is_taken_modulo_the_lanes_of_y() -> Test {
     let fields = Vecint::new(0, Vectors::One)?.enable_mode(1)?.enable_value(33)?;
     let (state, _) = stepped(&state(&[(X, 9, Bits16, 2), (Y, 1, Bits16, 21)]), Call::vecint(M1, fields));
     assert_eq!(state.lane(Z, 9, Bits16), 42);
+    Ok(())
+}
+
+fn register(side: Side, n: usize) -> Register {
+    match side {
+        Side::X => Register::X(n),
+        Side::Y => Register::Y(n),
+    }
+}
+
+fn other(side: Side) -> Side {
+    match side {
+        Side::X => Side::Y,
+        Side::Y => Side::X,
+    }
+}
+
+fn at_offset(side: Side, fields: Vecint, offset: u64) -> Result<Vecint, FieldError> {
+    match side {
+        Side::X => fields.x_offset(offset),
+        Side::Y => fields.y_offset(offset),
+    }
+}
+
+/// A state for indexed loads of a side: a table of elements in one of its registers, bytes of its ring, and 1 in every lane of the other side.
+fn tables(side: Side, width: Width, n: usize, table: &[i64], bytes: &[(usize, u8)], ones: Width) -> State {
+    let mut state = State::new();
+    table.iter().enumerate().for_each(|(lane, &element)| state.set_lane(register(side, n), lane, width, element));
+    bytes.iter().for_each(|&(at, byte)| state.set_lane(register(side, at / 64), at % 64, Bits8, byte.into()));
+    (0..8).for_each(|n| (0..ones.lanes()).for_each(|lane| state.set_lane(register(other(side), n), lane, ones, 1)));
+    state
+}
+
+/// The first lanes of a step with one vector in a group of Z rows, in their order.
+fn first_lanes<const N: usize>(state: &State, rows: usize, width: Width) -> [u32; N] {
+    std::array::from_fn(|k| state.lane(Register::Z(k % rows), k / rows, width))
+}
+
+#[test]
+fn an_index_names_an_element_of_the_register() -> Test {
+    for side in [Side::X, Side::Y] {
+        // two bits, lowest first: e4 is 0 1 2 3, and 1b is 3 2 1 0
+        let start = tables(side, Bits16, 2, &[10, 20, 30, 40, 99], &[(0, 0xe4), (1, 0x1b)], Bits16);
+        let (after, answer) = stepped(&start, Call::vecint(M1, Vecint::indexed(side, IndexBits::Two, 2, Vectors::One)?));
+        assert_eq!(first_lanes(&after, 1, Bits16), [10, 20, 30, 40, 40, 30, 20, 10, 10, 10]);
+        assert_eq!(answer, Answer::Done(32));
+        // four bits: 10 is 0 1, and f4 is 4 15; of 8-bit lanes, the last is by the high half of byte 31
+        let table: Vec<i64> = (100..116).collect();
+        let start = tables(side, Bits16, 7, &table, &[(0, 0x10), (1, 0x32), (2, 0xf4)], Bits16);
+        let (after, _) = stepped(&start, Call::vecint(M2, Vecint::indexed(side, IndexBits::Four, 7, Vectors::One)?));
+        assert_eq!(first_lanes(&after, 1, Bits16), [100, 101, 102, 103, 104, 115, 100, 100]);
+        let start = tables(side, Bits8, 7, &table, &[(0, 0x10), (1, 0xf2), (31, 0xc0)], Bits8);
+        let (after, answer) = stepped(&start, Call::vecint(M1, Vecint::indexed(side, IndexBits::Four, 7, Vectors::One)?.lane_widths(10)?));
+        assert_eq!(first_lanes(&after, 4, Bits32), [100, 101, 102, 115, 100, 100]);
+        assert_eq!((after.lane(Register::Z(3), 15, Bits32), answer), (112, Answer::Done(64)));
+        // of two bits, by the two highest of byte 15; the elements are signed as the side is
+        let start = tables(side, Bits8, 1, &[-1, -2, -3, -4], &[(0, 0x0c), (15, 0x80)], Bits8);
+        let fields = Vecint::indexed(side, IndexBits::Two, 1, Vectors::One)?.lane_widths(11)?;
+        let (after, _) = stepped(&start, Call::vecint(M1, fields));
+        assert_eq!(first_lanes(&after, 2, Bits16), [255, 252, 255]);
+        assert_eq!(after.lane(Register::Z(1), 31, Bits16), 253);
+        let signed = if side == Side::X { fields.x_signed(true)? } else { fields.y_signed(true)? };
+        let (after, _) = stepped(&start, Call::vecint(M1, signed));
+        assert_eq!([0, 1].map(|row| after.signed_lane(Register::Z(row), 0, Bits16)), [-1, -4]);
+    }
+    Ok(())
+}
+
+#[test]
+fn indices_go_round_the_ring_and_the_register_stays() -> Test {
+    for side in [Side::X, Side::Y] {
+        // offset 500: byte 511 has the indices 22 and 23, byte 0 has 24 and 25
+        let start = tables(side, Bits16, 1, &[7, 8, 9, 10, 11], &[(511, 0x21), (0, 0x43)], Bits16);
+        let fields = at_offset(side, Vecint::indexed(side, IndexBits::Four, 1, Vectors::One)?, 500)?;
+        let (after, _) = stepped(&start, Call::vecint(M1, fields));
+        let lanes: [u32; 32] = first_lanes(&after, 1, Bits16);
+        assert_eq!((lanes[..22].to_vec(), &lanes[22..]), (vec![7; 22], [8, 9, 10, 11, 7, 7, 7, 7, 7, 7].as_slice()));
+    }
+    Ok(())
+}
+
+#[test]
+fn the_lanes_of_widths_12_and_13_share_the_wider_side_s_elements() -> Test {
+    // the narrower side has an index for each lane, the wider one for each pair of lanes
+    for (widths, side, width, ones, lanes) in [
+        (12, Side::X, Bits8, Bits16, [21, 22, 20, 23, 20]),
+        (12, Side::Y, Bits16, Bits8, [21, 21, 22, 22, 20]),
+        (13, Side::X, Bits16, Bits8, [21, 21, 22, 22, 20]),
+        (13, Side::Y, Bits8, Bits16, [21, 22, 20, 23, 20]),
+    ] {
+        let start = tables(side, width, 4, &[20, 21, 22, 23], &[(0, 0x21), (1, 0x30)], ones);
+        let (after, answer) =
+            stepped(&start, Call::vecint(M1, Vecint::indexed(side, IndexBits::Four, 4, Vectors::One)?.lane_widths(widths)?));
+        assert_eq!((first_lanes(&after, 4, Bits32), answer), (lanes, Answer::Done(64)), "{widths} {side:?}");
+    }
+    Ok(())
+}
+
+/// Lane 0 of each of four vectors: 50 to 53 by the indices 0 to 3, which are `advance` bytes apart, times 1 to 4 from the other side's registers.
+fn four_vectors(side: Side, indices: IndexBits, widths: u64, advance: usize, broadcast: u64) -> Result<[u32; 4], Box<dyn Error>> {
+    let narrow = |side| matches!((widths, side), (10 | 11, _) | (12, Side::X) | (13, Side::Y));
+    let width = |side| if narrow(side) { Bits8 } else { Bits16 };
+    // from offset 480 on, round the ring; register 5 is in none of it
+    let bytes: Vec<(usize, u8)> = (0..4).map(|n| ((480 + advance * n) % 512, n as u8)).collect();
+    let mut start = tables(side, width(side), 5, &[50, 51, 52, 53], &bytes, width(other(side)));
+    (0..4).for_each(|n| start.set_lane(register(other(side), n), 0, width(other(side)), n as i64 + 1));
+    let fields = Vecint::indexed(side, indices, 5, Vectors::Four)?.lane_widths(widths)?.broadcast_mode(broadcast)?;
+    let (after, answer) = stepped(&start, Call::vecint(M2, at_offset(side, fields, 480)?));
+    assert_eq!(answer, Answer::Done(if narrow(Side::X) || narrow(Side::Y) { 256 } else { 128 }));
+    let z = if matches!(widths, 0 | 11) { Bits16 } else { Bits32 };
+    Ok([0, 16, 32, 48].map(|row| after.lane(Register::Z(row), 0, z)))
+}
+
+#[test]
+fn an_indexed_side_advances_by_64_times_index_bits_over_lane_bits() -> Test {
+    for (side, widths, two, four) in [
+        (Side::X, 0, 8, 16),
+        (Side::Y, 0, 8, 16),
+        (Side::X, 3, 8, 16),
+        (Side::Y, 10, 16, 32),
+        (Side::X, 11, 16, 32),
+        (Side::X, 12, 16, 32),
+        (Side::Y, 12, 8, 16),
+        (Side::X, 13, 8, 16),
+        (Side::Y, 13, 16, 32),
+    ] {
+        assert_eq!(four_vectors(side, IndexBits::Two, widths, two, 0)?, [50, 102, 156, 212], "{side:?} {widths}");
+        assert_eq!(four_vectors(side, IndexBits::Four, widths, four, 0)?, [50, 102, 156, 212], "{side:?} {widths}");
+    }
+    Ok(())
+}
+
+#[test]
+fn broadcast_modes_repeat_the_indices_or_the_other_side() -> Test {
+    let (advancing, repeated, other_repeated) = ([50, 102, 156, 212], [50, 100, 150, 200], [50, 51, 52, 53]);
+    for (broadcast, x, y) in [
+        (0, advancing, advancing),
+        (1, [0; 4], [0; 4]),
+        (2, repeated, other_repeated),
+        (3, other_repeated, repeated),
+        (4, [0; 4], [0; 4]),
+        (5, [0; 4], [0; 4]),
+        (6, repeated, other_repeated),
+        (7, other_repeated, repeated),
+    ] {
+        for (indices, widths, advance) in [(IndexBits::Four, 0, 16), (IndexBits::Two, 11, 16), (IndexBits::Four, 10, 32)] {
+            assert_eq!(four_vectors(Side::X, indices, widths, advance, broadcast)?, x, "X, {broadcast}, {widths}");
+            assert_eq!(four_vectors(Side::Y, indices, widths, advance, broadcast)?, y, "Y, {broadcast}, {widths}");
+        }
+    }
+    Ok(())
+}
+
+#[test]
+fn zeros_and_broadcast_lanes_come_after_the_indexed_load() -> Test {
+    for side in [Side::X, Side::Y] {
+        let mut start = tables(side, Bits16, 3, &[60, 61, 62, 63], &[(0, 0x32), (1, 0x01)], Bits16);
+        (0..32).for_each(|lane| start.set_lane(Z, lane, Bits16, 5));
+        let fields = Vecint::indexed(side, IndexBits::Four, 3, Vectors::One)?;
+        let lanes = |mode, value| -> Result<[u32; 4], Box<dyn Error>> {
+            let (after, answer) = stepped(&start, Call::vecint(M1, fields.enable_mode(mode)?.enable_value(value)?));
+            assert_eq!(answer, Answer::Done(32));
+            Ok(first_lanes(&after, 1, Bits16))
+        };
+        assert_eq!(lanes(0, 0)?, [67, 68, 66, 65]);
+        // output 0, X read as 0, Y read as 0: whichever side has the indices
+        assert_eq!((lanes(0, 3)?, lanes(0, 4)?, lanes(0, 5)?), ([0; 4], [5; 4], [5; 4]));
+        // Y lane 33 modulo 32, which the second index names
+        assert_eq!(lanes(1, 33)?, if side == Side::Y { [68; 4] } else { [67, 68, 66, 65] });
+
+        // lane 0 for all lanes is the element that the first index names
+        let fields = Vecint::indexed(side, IndexBits::Four, 3, Vectors::Two)?.broadcast_mode(if side == Side::X { 6 } else { 7 })?;
+        let (after, _) = stepped(&start, Call::vecint(M2, fields));
+        assert_eq!(first_lanes(&after, 1, Bits16), [67; 32]);
+        assert_eq!(after.lane(Register::Z(32), 31, Bits16), 62);
+    }
+    Ok(())
+}
+
+#[test]
+fn what_an_indexed_load_ignores_and_what_refuses_it() -> Test {
+    let start = State::from_bytes(std::array::from_fn(|at| (at * 37 % 251) as u8));
+    for generation in [M1, M2] {
+        // whatever ALU mode its bits would be
+        for fields in 0..64 {
+            let call = Call::new(18, generation as u64, 1 << 53 | fields << 47 | 12 << 42);
+            let without_bit_52 = Call { operand: call.operand & !(1 << 52), ..call };
+            assert_eq!(stepped(&start, call), stepped(&start, without_bit_52));
+            assert_eq!(normal(call), Ok(without_bit_52.operand));
+            assert_eq!(reference::normal(18, generation as u64, call.operand), Ok(without_bit_52.operand));
+            assert!(reference::only_adds(18, generation as u64, call.operand));
+            assert_eq!(reference::lanes(18, generation as u64, call.operand).len(), 64);
+            for bit in 27..=30 {
+                let shuffled = Call { operand: call.operand | 1 << bit, ..call };
+                assert_eq!(stepped(&start, shuffled), (start.clone(), Answer::Refused(Refusal::NotCovered)));
+            }
+            for bit in 54..=56 {
+                let reserved = Call { operand: call.operand | 1 << bit | 1 << 27, ..call };
+                assert_eq!(stepped(&start, reserved), (start.clone(), Answer::NoOp(Reason::ReservedBits)));
+            }
+        }
+        // without bit 53, bit 52 is one of the ALU mode's
+        let call = Call::new(18, generation as u64, 1 << 52);
+        assert_eq!(stepped(&start, call).1, Answer::NoOp(Reason::ReservedMode));
+        assert_eq!(normal(call), Err(Answer::NoOp(Reason::ReservedMode)));
+    }
     Ok(())
 }
 

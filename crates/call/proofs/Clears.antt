@@ -11,9 +11,9 @@ use Rattle.isa.specs.Operand.{bits, bit, cleared}
 use Rattle.isa.specs.Mac16 as Mac16
 use Rattle.isa.specs.Vecint as Vecint
 use Rattle.isa.specs.Normal.{ignoredByAll, ignoredByForm, mac16Ignored, vecintIgnored, clearedAll}
+use Rattle.isa.specs.Normal.{ignoredAlways, ignoredByVectors, ignoredByMode, ignoredByLoad, ignoredByRows}
 use Rattle.isa.proofs.Clear.{cleared-zero}
 use Rattle.operand.proofs.Fields.{field-past}
-use Rattle.call.specs.Parts.{ignoredAlways, ignoredByVectors, ignoredByMode, ignoredByRows}
 
 -- ---- one field
 
@@ -67,13 +67,15 @@ module _ (kept : ℕ) (m1 four several : Bool) where
     pub vectors-one : several ≡ false → k ≡ byVectors several
     vectors-one s = e ∙ sym (ap byVectors s)
 
-pub by-parts : (gen op : ℕ) {a v m n r : ℕ} → a ≡ clearedAll ignoredAlways op
+pub by-parts : (gen op : ℕ) {a v m l n r : ℕ} → a ≡ clearedAll ignoredAlways op
     → v ≡ clearedAll (ignoredByVectors (eqb gen 1) (Vecint.several gen op) (bit op 25)) a
     → m ≡ clearedAll (ignoredByMode (Vecint.saturates op) (Vecint.reduces op)) v
+    → l ≡ clearedAll (ignoredByLoad (bit op 53)) m
     → r ≡ Vecint.rowsEach op
-    → n ≡ clearedAll (ignoredByRows r) m
+    → n ≡ clearedAll (ignoredByRows r) l
     → n ≡ clearedAll (vecintIgnored gen op) op
-by-parts gen op ea ev em er en =
+by-parts gen op ea ev em el er en =
     let v′ = ev ∙ ap (clearedAll (ignoredByVectors (eqb gen 1) (Vecint.several gen op) (bit op 25))) ea in
     let m′ = em ∙ ap (clearedAll (ignoredByMode (Vecint.saturates op) (Vecint.reduces op))) v′ in
-    en ∙ (λ t. clearedAll (ignoredByRows (er t)) (m′ t))
+    let l′ = el ∙ ap (clearedAll (ignoredByLoad (bit op 53))) m′ in
+    en ∙ (λ t. clearedAll (ignoredByRows (er t)) (l′ t))

@@ -16,9 +16,8 @@ use Rattle.isa.specs.State.{stateLength}
 use Rattle.isa.specs.Effect.{lanesOn}
 use Rattle.isa.specs.Vecint as Vecint
 use Rattle.isa.specs.Call.{call, effectOf}
-use Rattle.isa.specs.Answers.{Row, rowsAbove, firstOf, answerOf}
+use Rattle.isa.specs.Answers.{Row, reservedBits, reservedMode, laterMode, notCovered, vecintRows, onlyIf, rowsAbove, firstOf, answerOf}
 use Rattle.isa.specs.Normal.{normalOperand, normalOf, instead}
-use Rattle.call.specs.Parts.{reservedBits, reservedMode, laterMode, notCovered, vecintAnswer}
 
 -- ---- modes
 
@@ -43,17 +42,14 @@ module _ (m : ℕ) where
   pub later-middle : (gen : ℕ) → 10 ≤ m → m ≤ 12 → eqb gen 1 ≡ laterMode gen m
   later-middle gen h l = sym (λ t. le-leb 10 m h t && le-leb m 12 l t && eqb gen 1)
 
--- ---- bit 53, or bits outside mode 4
+-- ---- bits outside mode 4
 
-module _ {high : Bool} (reduces set : Bool) where
-  pub by-high : high ≡ true → true ≡ (high || not reduces && set)
-  by-high e = sym (ap (λ (b : Bool). b || not reduces && set) e)
+module _ {reduces : Bool} (set : Bool) where
+  pub not-outside : reduces ≡ true → false ≡ (not reduces && set)
+  not-outside e = sym (λ t. not (e t) && set)
 
-  pub not-outside : high ≡ false → reduces ≡ true → false ≡ (high || not reduces && set)
-  not-outside e f = sym (λ t. e t || not (f t) && set)
-
-  pub outside : high ≡ false → reduces ≡ false → set ≡ (high || not reduces && set)
-  outside e f = sym (λ t. e t || not (f t) && set)
+  pub outside : reduces ≡ false → set ≡ (not reduces && set)
+  outside e = sym (λ t. not (e t) && set)
 
 -- ---- vecint's rows
 
@@ -61,31 +57,29 @@ module _ (gen op : ℕ) where
   abbrev mode : ℕ
   mode = Vecint.mode op
 
-  pub row-bits : reservedBits op ≡ true → NoOp ReservedBits ≡ vecintAnswer gen op
+  abbrev pub vecintAnswer : Answer
+  vecintAnswer = firstOf (vecintRows gen op) (Done 0)
+
+  pub row-bits : reservedBits op ≡ true → NoOp ReservedBits ≡ vecintAnswer
   row-bits e = sym (pick-true _ _ e)
 
-  pub row-mode : reservedBits op ≡ false → reservedMode mode ≡ true → NoOp ReservedMode ≡ vecintAnswer gen op
+  pub row-mode : reservedBits op ≡ false → reservedMode mode ≡ true → NoOp ReservedMode ≡ vecintAnswer
   row-mode e f = sym (pick-false _ _ e ∙ pick-true _ _ f)
 
-  pub row-later : reservedBits op ≡ false → reservedMode mode ≡ false → laterMode gen mode ≡ true → NoOp LaterGeneration ≡ vecintAnswer gen op
+  pub row-later : reservedBits op ≡ false → reservedMode mode ≡ false → laterMode gen mode ≡ true → NoOp LaterGeneration ≡ vecintAnswer
   row-later e f g = sym (pick-false _ _ e ∙ pick-false _ _ f ∙ pick-true _ _ g)
 
   pub row-not-covered : reservedBits op ≡ false → reservedMode mode ≡ false → laterMode gen mode ≡ false → notCovered op ≡ true
-      → Refused refusal.NotCovered ≡ vecintAnswer gen op
+      → Refused refusal.NotCovered ≡ vecintAnswer
   row-not-covered e f g h = sym (pick-false _ _ e ∙ pick-false _ _ f ∙ pick-false _ _ g ∙ pick-true _ _ h)
 
   pub row-done : reservedBits op ≡ false → reservedMode mode ≡ false → laterMode gen mode ≡ false → notCovered op ≡ false
-      → Done 0 ≡ vecintAnswer gen op
+      → Done 0 ≡ vecintAnswer
   row-done e f g h = sym (pick-false _ _ e ∙ pick-false _ _ f ∙ pick-false _ _ g ∙ pick-false _ _ h)
 
   -- the rows, where it is told whether the instruction is vecint
   abbrev rowsIf : Bool → Answer
-  rowsIf v =
-      cond (v && reservedBits op) (NoOp ReservedBits)
-      (cond (v && reservedMode mode) (NoOp ReservedMode)
-      (cond (v && laterMode gen mode) (NoOp LaterGeneration)
-      (cond (v && notCovered op) (Refused refusal.NotCovered)
-      (Done 0))))
+  rowsIf v = firstOf (onlyIf v (vecintRows gen op)) (Done 0)
 
 -- ---- the whole table
 

@@ -4,7 +4,7 @@ use mathlib.Core.Path.{_≡_, refl, sym, ap, ap₂, _∙_, subst}
 use mathlib.Core.Bool.{Bool, true, false, cond, not, _&&_, _||_}
 use mathlib.Core.List.{List, [], _∷_}
 use Prim.Native.Nat.{ℕ}
-use lib.Dec.{leb, eqb}
+use lib.Dec.{eqb}
 use lib.ListN.{length}
 use borrow.Author.Tests.{eqb-true}
 use Rattle.isa.specs.declared.Answer.{Answer}
@@ -16,10 +16,11 @@ use Rattle.isa.specs.Effect.{Effect, applied, lanesOn}
 use Rattle.isa.specs.Mac16 as Mac16
 use Rattle.isa.specs.Vecint as Vecint
 use Rattle.isa.specs.Call.{Call, call, isMac16, isVecint, effectOf}
-use Rattle.isa.specs.Answers.{Row, rowsAbove, firstOf, answerOf, isDone}
+use Rattle.isa.specs.Answers.{Row, rowsAbove, firstOf, answerOf, isDone, reservedBits, reservedMode, laterMode, notCovered, vecintRows, onlyIf}
 use Rattle.isa.specs.Step.{stepped}
 use Rattle.isa.specs.Normal.{mac16Ignored, vecintIgnored, clearedAll, normalOperand, instead, normalOf}
 use Rattle.isa.specs.Demands.{NormalSame, NormalTwice, NormalAnswers}
+use Rattle.isa.specs.Indexed.{ModeBitsStay}
 use Rattle.number.proofs.Tests.{two, pick-true, pick-false}
 use Rattle.isa.proofs.NormalMac16.{mac16-same, mac16-twice}
 use Rattle.isa.proofs.NormalVecint as V′
@@ -68,12 +69,12 @@ for-vecint c p q same =
     (λ e. ap (λ (b : Bool). isVecint c && b) (same e))
 
 -- bits 27 to 30 count outside mode 4
-shuffles-same : (gen op : ℕ)
-    → (not (Vecint.reduces (V′.kept gen op)) && not (eqb (bits (V′.kept gen op) 27 30) 0)) ≡ (not (Vecint.reduces op) && not (eqb (bits op 27 30) 0))
-shuffles-same gen op =
-    two (Vecint.reduces op) ((not (Vecint.reduces (V′.kept gen op)) && not (eqb (bits (V′.kept gen op) 27 30) 0)) ≡ (not (Vecint.reduces op) && not (eqb (bits op 27 30) 0)))
+not-covered-same : (gen op : ℕ) → notCovered (V′.kept gen op) ≡ notCovered op
+not-covered-same gen op =
+    let kept : ℕ = V′.kept gen op in
+    two (Vecint.reduces op) (notCovered kept ≡ notCovered op)
     (λ e.
-    ap (λ (b : Bool). not b && not (eqb (bits (V′.kept gen op) 27 30) 0)) (V′.reduces-same gen op ∙ e)
+    ap (λ (b : Bool). not b && not (eqb (bits kept 27 30) 0)) (V′.reduces-same gen op ∙ e)
     ∙ sym (ap (λ (b : Bool). not b && not (eqb (bits op 27 30) 0)) e))
     (λ e. λ t. not (V′.reduces-same gen op t) && not (eqb (V′.same gen op 27 30 (rw e tt) t) 0))
 
@@ -82,42 +83,29 @@ unfolding answerOf Alike
 answer-same n c =
     let g : ℕ = c .generation in
     let op : ℕ = c .operand in
-    let by-mode : (f : ℕ → Bool) → (isVecint c && f (Vecint.mode (normalOperand c))) ≡ (isVecint c && f (Vecint.mode op)) =
-    λ f. for-vecint c (f (Vecint.mode (normalOperand c))) (f (Vecint.mode op))
-    (λ e. ap (λ (x : ℕ). f (Vecint.mode x)) (vecint-operand c e) ∙ ap f (V′.mode-same g op))
+    let kept : ℕ = normalOperand c in
+    let alike : (f : ℕ → Bool) → f (V′.kept g op) ≡ f op → (isVecint c && f kept) ≡ (isVecint c && f op) =
+    λ f same. for-vecint c (f kept) (f op) (λ e. ap f (vecint-operand c e) ∙ same)
     in
-    first-same (rowsAbove n (normalised c)) (rowsAbove n c) (Done (lanesOn (effectOf (normalised c)))) (Done (lanesOn (effectOf c))) (
-      (refl, refl),
-      (
-        (refl, refl),
-        (
-          (refl, refl),
-          (
-            (for-vecint c _ _ (λ e. ap (λ (x : ℕ). not (eqb (bits x 54 56) 0)) (vecint-operand c e) ∙ ap (λ (x : ℕ). not (eqb x 0)) (V′.same g op 54 56 tt)), refl),
-            (
-              (by-mode (λ m. leb 7 m && leb m 9 || leb 13 m), refl),
-              (
-                (by-mode (λ m. leb 10 m && leb m 12 && eqb g 1), refl),
-                (
-                  (
-                    for-vecint c _ _ (λ e.
-                        ap (λ (x : ℕ). eqb (bits x 53 53) 1 || not (Vecint.reduces x) && not (eqb (bits x 27 30) 0)) (vecint-operand c e)
-                        ∙ (λ t. eqb (V′.same g op 53 53 tt t) 1 || shuffles-same g op t)),
-                    refl,
-                  ),
-                  tt,
-                ),
-              ),
-            ),
-          ),
-        ),
-      ),
+    let by-mode : (f : ℕ → Bool) → (isVecint c && f (Vecint.mode kept)) ≡ (isVecint c && f (Vecint.mode op)) =
+    λ f. alike (λ (x : ℕ). f (Vecint.mode x)) (ap f (V′.mode-same g op))
+    in
+    let bits-row = alike reservedBits (ap (λ (x : ℕ). not (eqb x 0)) (V′.same g op 54 56 tt)) in
+    let vecint-alike : Alike (onlyIf (isVecint c) (vecintRows g kept)) (onlyIf (isVecint c) (vecintRows g op)) = (
+      (bits-row, refl),
+      ((by-mode reservedMode, refl), ((by-mode (laterMode g), refl), ((alike notCovered (not-covered-same g op), refl), tt))),
     )
+    in
+    first-same (rowsAbove n (normalised c)) (rowsAbove n c) (Done (lanesOn (effectOf (normalised c)))) (Done (lanesOn (effectOf c)))
+    ((refl, refl), ((refl, refl), ((refl, refl), vecint-alike)))
     (ap (λ (e : Effect). Done (lanesOn e)) (effect-same c))
 
 step-same : (c : Call) (s : List ℕ) → stepped (normalised c) s ≡ stepped c s
 unfolding stepped
 step-same c s = λ t. cond (isDone (answer-same (length s) c t)) (applied (effect-same c t) s) s
+
+pub mode-bits-stay : ModeBitsStay
+mode-bits-stay c e f = ap (λ (x : ℕ). bits x 47 52) (vecint-operand c e) ∙ V′.mode-bits-same (c .generation) (c .operand) f
 
 -- ---- the demands
 
@@ -133,7 +121,8 @@ is-normal c op e = go (answerOf stateLength c) e
 
 pub normal-same : NormalSame
 normal-same c op e s =
-    subst (λ (x : ℕ). (answerOf (length s) (call (c .instruction) (c .generation) x) ≡ answerOf (length s) c) × (stepped (call (c .instruction) (c .generation) x) s ≡ stepped c s))
+    let of : ℕ → Call = call (c .instruction) (c .generation) in
+    subst (λ (x : ℕ). (answerOf (length s) (of x) ≡ answerOf (length s) c) × (stepped (of x) s ≡ stepped c s))
     (is-normal c op e) (answer-same (length s) c, step-same c s)
 
 operand-twice : (c : Call) → normalOperand (normalised c) ≡ normalOperand c
@@ -150,7 +139,8 @@ operand-twice c =
 
 pub normal-twice : NormalTwice
 normal-twice c op e =
-    subst (λ (x : ℕ). normalOf (call (c .instruction) (c .generation) x) ≡ normal.Operand x) (is-normal c op e) (once c ∙ e ∙ ap normal.Operand (sym (is-normal c op e)))
+    subst (λ (x : ℕ). normalOf (call (c .instruction) (c .generation) x) ≡ normal.Operand x)
+    (is-normal c op e) (once c ∙ e ∙ ap normal.Operand (sym (is-normal c op e)))
   where
     once : (c : Call) → normalOf (normalised c) ≡ normalOf c
     once c = unfold normalOf in ap₂ instead (answer-same stateLength c) (operand-twice c)

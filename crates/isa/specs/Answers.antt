@@ -12,7 +12,7 @@ use Rattle.isa.specs.declared.Answer.{Answer}
 use Rattle.isa.specs.declared.Answer.the-variants.{Done, NoOp, Refused}
 use Rattle.isa.specs.declared.Normal.{Normal}
 use Rattle.isa.specs.declared.Normal.the-variants as normal
-use Rattle.isa.specs.Operand.{bits, bit}
+use Rattle.isa.specs.Operand.{bits}
 use Rattle.isa.specs.State.{stateLength}
 use Rattle.isa.specs.Effect.{lanesOn}
 use Rattle.isa.specs.Vecint.{mode, reduces}
@@ -60,6 +60,36 @@ pub record Row : Type 0 where
 abbrev row : Bool → Answer → Row
 row applies answer = record { applies = applies; answer = answer }
 
+-- no-op 1: vecint, any of bits 54..56 set
+abbrev pub reservedBits : ℕ → Bool
+reservedBits op = not (eqb (bits op 54 56) 0)
+
+-- no-op 2: vecint ALU mode 7, 8, 9 or above 12
+abbrev pub reservedMode : ℕ → Bool
+reservedMode m = leb 7 m && leb m 9 || leb 13 m
+
+-- no-op 3: vecint ALU mode 10, 11, 12 on generation 1
+abbrev pub laterMode : ℕ → ℕ → Bool
+laterMode gen m = leb 10 m && leb m 12 && eqb gen 1
+
+-- refused 4: vecint, ALU mode not 4 and bits 27..30 not all 0. "Refusal 4 is left for nonzero shuffles."
+abbrev pub notCovered : ℕ → Bool
+notCovered op = not (reduces op) && not (eqb (bits op 27 30) 0)
+
+-- the rows that are vecint's alone
+abbrev pub vecintRows : ℕ → ℕ → List Row
+vecintRows gen op =
+    row (reservedBits op) (NoOp reason.ReservedBits)
+    ∷ row (reservedMode (mode op)) (NoOp reason.ReservedMode)
+    ∷ row (laterMode gen (mode op)) (NoOp reason.LaterGeneration)
+    ∷ row (notCovered op) (Refused refusal.NotCovered)
+    ∷ []
+
+-- rows that apply on a further condition
+abbrev pub onlyIf : Bool → List Row → List Row
+onlyIf condition [] = []
+onlyIf condition (r ∷ rs) = row (condition && r .applies) (r .answer) ∷ onlyIf condition rs
+
 -- the rows above "done", for a state of n bytes
 abbrev pub rowsAbove : ℕ → Call → List Row
 rowsAbove n c =
@@ -69,15 +99,7 @@ rowsAbove n c =
     ∷ row (not (eqb (c .generation) 1 || eqb (c .generation) 2)) (Refused refusal.Generation)
     -- refused 3: instruction not 14 or 18
     ∷ row (not (isMac16 c || isVecint c)) (Refused refusal.Instruction)
-    -- no-op 1: vecint, any of bits 54..56 set
-    ∷ row (isVecint c && not (eqb (bits (c .operand) 54 56) 0)) (NoOp reason.ReservedBits)
-    -- no-op 2: vecint ALU mode 7, 8, 9 or above 12
-    ∷ row (isVecint c && (leb 7 (mode (c .operand)) && leb (mode (c .operand)) 9 || leb 13 (mode (c .operand)))) (NoOp reason.ReservedMode)
-    -- no-op 3: vecint ALU mode 10, 11, 12 on generation 1
-    ∷ row (isVecint c && (leb 10 (mode (c .operand)) && leb (mode (c .operand)) 12 && eqb (c .generation) 1)) (NoOp reason.LaterGeneration)
-    -- refused 4: vecint, bit 53 set, or ALU mode not 4 and bits 27..30 not all 0
-    ∷ row (isVecint c && (bit (c .operand) 53 || not (reduces (c .operand)) && not (eqb (bits (c .operand) 27 30) 0))) (Refused refusal.NotCovered)
-    ∷ []
+    ∷ onlyIf (isVecint c) (vecintRows (c .generation) (c .operand))
 
 -- "First row that applies wins."
 abbrev pub firstOf : List Row → Answer → Answer

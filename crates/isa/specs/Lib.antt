@@ -14,3 +14,4 @@ pub mod Places
 pub mod Edges
 pub mod Guards
 pub mod MixedWidths
+pub mod Indexed

@@ -40,21 +40,34 @@ ignoredByForm Mac16.matrix32 = always 20 25 ∷ []
 abbrev pub mac16Ignored : ℕ → List Ignored
 mac16Ignored op = ignoredByAll ++ ignoredByForm (Mac16.formOf op)
 
--- vecint, "Ignored (in done steps): 57, 46, 41, 19, 9; M1 also 31; several vectors also 35..40, and 24 if four; modes 5 and 6 also 58..62 and 42..45;
--- mode 4 also 27, 28 and both offsets; outside mode 4, r = 2 also bit 20 and r = 4 also 20, 21." In mode 4 rowsEach is 1.
-abbrev pub vecintIgnoredIf : Bool → Bool → Bool → Bool → Bool → ℕ → List Ignored
-vecintIgnoredIf m1 several four saturates reduces r =
-    always 57 57 ∷ always 46 46 ∷ always 41 41 ∷ always 19 19 ∷ always 9 9
-    ∷ also m1 31 31
-    ∷ also several 35 40 ∷ also (several && four) 24 24
-    ∷ also saturates 58 62 ∷ also saturates 42 45
-    ∷ also reduces 27 28 ∷ also reduces 10 18 ∷ also reduces 0 8
-    ∷ also (eqb r 2) 20 20 ∷ also (eqb r 4) 20 21
-    ∷ []
+-- vecint, "Ignored (in done steps): 57, 46, 41, 19, 9"
+abbrev pub ignoredAlways : List Ignored
+ignoredAlways = always 57 57 ∷ always 46 46 ∷ always 41 41 ∷ always 19 19 ∷ always 9 9 ∷ []
+
+-- "M1 also 31; several vectors also 35..40, and 24 if four"
+abbrev pub ignoredByVectors : Bool → Bool → Bool → List Ignored
+ignoredByVectors m1 several four = also m1 31 31 ∷ also several 35 40 ∷ also (several && four) 24 24 ∷ []
+
+-- "modes 5 and 6 also 58..62 and 42..45; mode 4 also 27, 28 and both offsets"
+abbrev pub ignoredByMode : Bool → Bool → List Ignored
+ignoredByMode saturates reduces =
+    also saturates 58 62 ∷ also saturates 42 45 ∷ also reduces 27 28 ∷ also reduces 10 18 ∷ also reduces 0 8 ∷ []
+
+-- of an indexed load, "bit 52 is ignored and cleared"; of any other it is the ALU mode's
+abbrev pub ignoredByLoad : Bool → List Ignored
+ignoredByLoad indexed = also indexed 52 52 ∷ []
+
+-- "outside mode 4, r = 2 also bit 20 and r = 4 also 20, 21." In mode 4 rowsEach is 1.
+abbrev pub ignoredByRows : ℕ → List Ignored
+ignoredByRows r = also (eqb r 2) 20 20 ∷ also (eqb r 4) 20 21 ∷ []
+
+abbrev pub vecintIgnoredIf : Bool → Bool → Bool → Bool → Bool → Bool → ℕ → List Ignored
+vecintIgnoredIf m1 several four saturates reduces indexed r =
+    ignoredAlways ++ ignoredByVectors m1 several four ++ ignoredByMode saturates reduces ++ ignoredByLoad indexed ++ ignoredByRows r
 
 abbrev pub vecintIgnored : ℕ → ℕ → List Ignored
 vecintIgnored gen op =
-    vecintIgnoredIf (eqb gen 1) (Vecint.several gen op) (bit op 25) (Vecint.saturates op) (Vecint.reduces op) (Vecint.rowsEach op)
+    vecintIgnoredIf (eqb gen 1) (Vecint.several gen op) (bit op 25) (Vecint.saturates op) (Vecint.reduces op) (bit op 53) (Vecint.rowsEach op)
 
 abbrev pub ignored : Call → List Ignored
 ignored c = cond (isMac16 c) (mac16Ignored (c .operand)) (vecintIgnored (c .generation) (c .operand))

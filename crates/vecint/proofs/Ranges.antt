@@ -2,20 +2,18 @@
 -- Assumes nothing.
 use mathlib.Core.Path.{_≡_, refl, sym, ap, _∙_, subst}
 use mathlib.Core.Bool.{Bool, true, false, cond}
-use mathlib.Core.List.{List}
+use mathlib.Core.List.{List, [], _∷_}
 use mathlib.Core.Logic.{_⊎_, inl, inr}
 use Prim.Native.Nat.{ℕ, zero, suc, _+_, _*_, _/_, _%_, _^_, _≤_, _<_}
 use native.Mathlib.Omega.{arith}
 use lib.IntN.{ℤ, pos, negsuc, negℤ, _+ℤ_, _*ℤ_}
 use lib.ListN.{take}
-use lib.Seq.{getD-take}
 use lib.Signed.{mag, shrZ, mag-shr}
 use Rattle.number.specs.Bytes.{span}
 use Rattle.number.specs.Integers.{read, kept, clampSigned}
 use Rattle.number.proofs.Range.{kept-same, mag-add, mag-mul, mag-read}
 use Rattle.number.proofs.Tests.{two, pick-false}
 use Rattle.isa.specs.Operand.{bit}
-use Rattle.isa.specs.State.{xBase, yBase, loaded}
 use Rattle.isa.specs.Vecint as Vecint
 use Rattle.operand.proofs.Widths.{x-cases, y-cases}
 use Rattle.sides.specs.Sides.{termOf}
@@ -62,26 +60,34 @@ two-bytes : {b : ℕ} → (b ≡ 1) ⊎ (b ≡ 2) → (sign : Bool) (n : ℕ) �
 two-bytes {b} (inl e) sign n h = omega (arith, mag-read sign b n h, ap span e)
 two-bytes {b} (inr e) sign n h = omega (arith, mag-read sign b n h, ap span e)
 
+take-small : (n : ℕ) (s : List ℕ) → Bytes s → Bytes (take n s)
+take-small zero s small p = omega arith
+take-small (suc n) [] small p = omega arith
+take-small (suc n) (x ∷ s) small zero = small 0
+take-small (suc n) (x ∷ s) small (suc p) = take-small n s (λ q. small (suc q)) p
+
+-- a byte of a side, whether its load is indexed or not, is one of X or Y, or 0
+side-small : (override indexed : Bool) (n r b : ℕ) (xy : List ℕ) (base from i : ℕ) → Bytes xy
+    → cond override 0 (Vecint.sideByte indexed n r b xy base from i) < 256
+unfolding Vecint.sideByte Vecint.picked
+side-small true indexed n r b xy base from i small = omega arith
+side-small false true n r b xy base from i small = small _
+side-small false false n r b xy base from i small = small _
+
 module _ (gen op : ℕ) (s : List ℕ) (v k : ℕ) (small : Bytes s) where
-  loaded-lt : (base offset i : ℕ) → base ≤ 512 → loaded (take 1024 s) base offset i < 256
-  loaded-lt base offset i h =
-      subst (λ (x : ℕ). x < 256) (sym (getD-take 1024 s (base + (offset + i) % 512) 0 (omega arith))) (small (base + (offset + i) % 512))
-
-  blank-lt : (b : Bool) {x : ℕ} → x < 256 → cond b 0 x < 256
-  blank-lt true h = omega arith
-  blank-lt false h = h
-
   pub x-small : mag (Vecint.xOf gen op (take 1024 s) v k) < 65536
   unfolding Vecint.xOf Vecint.xBytes
   x-small =
+      let f : ℕ → ℕ = Vecint.xBytes gen op (take 1024 s) v in
       two-bytes (x-cases op) (bit op 63) _
-      (number-lt (Vecint.widths op .x) (Vecint.xBytes gen op (take 1024 s) v) _ (λ i. blank-lt (Vecint.overrides gen op 4 4) (loaded-lt xBase _ i (omega arith))))
+      (number-lt (Vecint.widths op .x) f _ (λ i. side-small (Vecint.overrides gen op 4 4) _ _ _ _ _ _ _ i (take-small 1024 s small)))
 
   pub y-small : mag (Vecint.yOf gen op (take 1024 s) v k) < 65536
   unfolding Vecint.yOf Vecint.yBytes
   y-small =
+      let f : ℕ → ℕ = Vecint.yBytes gen op (take 1024 s) v in
       two-bytes (y-cases op) (bit op 26) _
-      (number-lt (Vecint.widths op .y) (Vecint.yBytes gen op (take 1024 s) v) _ (λ i. blank-lt (Vecint.overrides gen op 5 5) (loaded-lt yBase _ i (omega arith))))
+      (number-lt (Vecint.widths op .y) f _ (λ i. side-small (Vecint.overrides gen op 5 5) _ _ _ _ _ _ _ i (take-small 1024 s small)))
 
 skip-small : (skip : Bool) (x : ℤ) → mag x < 65536 → mag (cond skip (pos 0) x) < 65536
 skip-small true x h = omega arith
@@ -90,7 +96,9 @@ skip-small false x h = h
 -- a term before the shift
 made : Alu → ℤ → ℤ → ℤ
 made how x y =
-    cond (how .sums) (cond (how .skipx) (pos 0) x +ℤ cond (how .skipy) (pos 0) y) (cond (how .skipx) (pos 0) x *ℤ cond (how .skipy) (pos 0) y) +ℤ cond (how .clamps) (pos 16384) (pos 0)
+    let x′ : ℤ = cond (how .skipx) (pos 0) x in
+    let y′ : ℤ = cond (how .skipy) (pos 0) y in
+    cond (how .sums) (x′ +ℤ y′) (x′ *ℤ y′) +ℤ cond (how .clamps) (pos 16384) (pos 0)
 
 made-small : (how : Alu) (x y : ℤ) → mag x < 65536 → mag y < 65536 → mag (made how x y) < 2 ^ 33 + 16385
 unfolding made

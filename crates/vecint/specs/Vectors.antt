@@ -1,7 +1,7 @@
 -- A step as its vectors, each with the rows that its lanes are dealt to.
 -- Assumes nothing.
 use mathlib.Core.Path.{_≡_}
-use mathlib.Core.Bool.{Bool, true, cond, _||_}
+use mathlib.Core.Bool.{Bool, cond, _||_}
 use mathlib.Core.List.{List}
 use Prim.Native.Nat.{ℕ, _+_, _*_, _/_, _%_, _<_}
 use lib.Dec.{eqb}
@@ -10,7 +10,7 @@ use lib.ListN.{take, getD}
 use Rattle.number.specs.Bytes.{span, table}
 use Rattle.number.specs.Integers.{wrap, kept}
 use Rattle.isa.specs.Operand.{bits, bit}
-use Rattle.isa.specs.State.{xBase, yBase, zBase, lanesOf, loaded}
+use Rattle.isa.specs.State.{zBase, lanesOf}
 use Rattle.isa.specs.Effect.{Effect}
 use Rattle.isa.specs.Vecint as Vecint
 use Rattle.sides.specs.declared.SideForm.{SideForm}
@@ -45,15 +45,7 @@ fixedY gen op = cond (Vecint.several gen op) (eqb (Vecint.broadcastMode op) 7) (
 abbrev pub laneY : ℕ → ℕ → ℕ
 laneY gen op = cond (Vecint.several gen op) 0 (Vecint.enableValue op)
 
--- the bytes of X for vector v, 0 where X is left out, and how its lanes are read; the same for Y
-abbrev pub xBytesOf : ℕ → ℕ → List ℕ → ℕ → Bool → List ℕ
-xBytesOf gen op s v skip =
-    table (λ i. cond (cond skip true (Vecint.overrides gen op 4 4)) 0 (loaded s xBase (bits op 10 18 + cond (Vecint.broadcasts gen op 2 6) 0 (64 * v)) i)) 0 64
-
-abbrev pub yBytesOf : ℕ → ℕ → List ℕ → ℕ → Bool → List ℕ
-yBytesOf gen op s v skip =
-    table (λ i. cond (cond skip true (Vecint.overrides gen op 5 5)) 0 (loaded s yBase (bits op 0 8 + cond (Vecint.broadcasts gen op 3 7) 0 (64 * v)) i)) 0 64
-
+-- how the lanes of X are read; the same for Y
 abbrev pub xSideOf : ℕ → ℕ → SideForm
 xSideOf gen op = record { wide = eqb (Vecint.widths op .x) 2; sign = bit op 63; fixed = Vecint.broadcasts gen op 6 6; lane = 0; halved = eqb (Vecint.widths op .y) 1 }
 

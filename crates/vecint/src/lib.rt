@@ -13,7 +13,7 @@ ghost use Rattle.isa.specs.Vecint as Vecint;
 ghost use Rattle.state.specs.Rows.{dealt};
 ghost use Rattle.vecint.specs.Accumulation.{zBytes, zLanes, summed, clampedSum, accumulated, laneStored, accumulate, rowOf};
 ghost use Rattle.vecint.specs.Modes.{sumsIn, yAlone, negatesIn, aluBy};
-ghost use Rattle.vecint.specs.Vectors.{xBytesOf, yBytesOf, xSideOf, ySideOf, fixedY, laneY, HoldsTerms, vecintMask, vectorEffect, reduceBy};
+ghost use Rattle.vecint.specs.Vectors.{xSideOf, ySideOf, fixedY, laneY, HoldsTerms, vecintMask, vectorEffect, reduceBy};
 
 // ---- lanes of all modes but 4
 
@@ -260,43 +260,6 @@ fn alu_by(generation: u64, op: u64) -> Alu
 
 // ---- the sides of a vector
 
-// Whether a side is read as 0: left out by the mode, or by an override.
-fn blank(skip: bool, generation: u64, op: u64, value: u64, broadcast: u64) -> bool
-    ensures { λ r. ⌜ r ≡ cond skip true (Vecint.overrides generation op value broadcast) ⌝ }
-{
-    if skip {
-        return true;
-    }
-    operand::overrides(generation, op, value, broadcast)
-}
-
-// Where the 64 bytes of vector v begin: they advance by 64, but in broadcast modes a and b.
-fn offset(generation: u64, op: u64, v: usize, from: u64, a: u64, b: u64) -> u64
-    requires { ⌜ (v < 4) × (from < 512) ⌝ }
-    ensures { λ r. ⌜ r ≡ from + cond (Vecint.broadcasts generation op a b) 0 (64 * v) ⌝ }
-{
-    if operand::broadcasts(generation, op, a, b) {
-        return from;
-    }
-    from + 64 * (v as u64)
-}
-
-fn x_bytes(state: &[u8], generation: u64, op: u64, v: usize, skip: bool) -> [u8; 64]
-    requires { ⌜ v < 4 ⌝ }
-    ensures { λ r. ⌜ r ≡ xBytesOf generation op (now (state .entry)) v skip ⌝ }
-{
-    let from = offset(generation, op, v, operand::field(op, 10, 18), 2, 6);
-    state::load_unless(blank(skip, generation, op, 4, 4), state, false, from)
-}
-
-fn y_bytes(state: &[u8], generation: u64, op: u64, v: usize, skip: bool) -> [u8; 64]
-    requires { ⌜ v < 4 ⌝ }
-    ensures { λ r. ⌜ r ≡ yBytesOf generation op (now (state .entry)) v skip ⌝ }
-{
-    let from = offset(generation, op, v, operand::field(op, 0, 8), 3, 7);
-    state::load_unless(blank(skip, generation, op, 5, 5), state, true, from)
-}
-
 // How the lanes of X are read.
 fn x_side(generation: u64, op: u64) -> sides::SideForm
     ensures { λ r. ⌜ r ≡ xSideOf generation op ⌝ }
@@ -347,8 +310,8 @@ fn vector_terms(state: &[u8], generation: u64, op: u64, v: usize, how: Alu) -> [
     requires { ⌜ (v < 4) × (Vecint.reduces op ≡ false) ⌝ }
     ensures { λ r. ⌜ HoldsTerms generation op (now (state .entry)) v how r ⌝ }
 {
-    let xs = x_bytes(state, generation, op, v, how.skipx);
-    let ys = y_bytes(state, generation, op, v, how.skipy);
+    let xs = loads::x_bytes(state, generation, op, v, how.skipx);
+    let ys = loads::y_bytes(state, generation, op, v, how.skipy);
     sides::kept_terms(
         &xs,
         x_side(generation, op),

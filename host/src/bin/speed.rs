@@ -1,5 +1,5 @@
 //! The proved unit's speed against the reference's, in one run. Ratios are of medians of interleaved runs; below 1 the proved unit is faster.
-use amx::{Answer, Call, FieldError, Generation::M2, Mac16, State, Vecint, Vectors, random::Random, reference, step};
+use amx::{Answer, Call, FieldError, Generation::M2, IndexBits, Mac16, Side, State, Vecint, Vectors, random::Random, reference, step};
 use std::{hint::black_box, time::Instant};
 
 const RUNS: usize = 31;
@@ -69,5 +69,11 @@ fn main() -> Result<(), FieldError> {
     let works = |&call: &Call| matches!(step(&mut State::new(), call), Answer::Done(1..));
     let records: Vec<Call> = std::iter::repeat_with(|| random.known_call()).filter(works).take(2_048).collect();
     measure("a whole trace, 2,048 done steps", &start, &records);
+    let indexed = Vecint::indexed(Side::X, IndexBits::Four, 3, Vectors::One)?.shift(3)?.x_signed(true)?.y_signed(true)?;
+    form("vecint, indexed X, widths 0", &start, Call::vecint(M2, indexed), 4_000);
+    form("vecint, indexed X, widths 10", &start, Call::vecint(M2, indexed.lane_widths(10)?), 4_000);
+    let is_indexed = |call: &Call| call.instruction == 18 && call.operand >> 53 & 1 == 1;
+    let loads = std::iter::repeat_with(|| random.known_call()).filter(|call| is_indexed(call) && works(call));
+    measure("vecint, 2,048 done indexed steps", &start, &loads.take(2_048).collect::<Vec<_>>());
     Ok(())
 }

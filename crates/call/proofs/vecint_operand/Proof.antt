@@ -3,29 +3,38 @@ use borrow.Author.Needs.{needs}
 use Rattle.call.proofs.vecint_operand.Statement.{statement}
 use Rattle.call.proofs.vecint_operand.Tie as tie
 
--- src/lib.rt:195:9
+-- src/lib.rt:199:9
 clear-always-requires : tie.Need-clear-always-requires
 clear-always-requires c κs = search needs
 
--- src/lib.rt:196:9
+-- src/lib.rt:200:9
 clear-by-vectors-requires : tie.Need-clear-by-vectors-requires
 clear-by-vectors-requires c κs = search needs
 
--- src/lib.rt:197:9
+-- src/lib.rt:201:9
 clear-by-mode-requires : tie.Need-clear-by-mode-requires
 clear-by-mode-requires c κs = search needs
 
--- src/lib.rt:198:25
+-- src/lib.rt:202:9
+clear-by-load-requires : tie.Need-clear-by-load-requires
+clear-by-load-requires c κs = search needs
+
+-- src/lib.rt:203:25
 rows-each-requires : tie.Need-rows-each-requires
 rows-each-requires c κs = search needs
 
--- src/lib.rt:198:5
+-- src/lib.rt:203:5
 clear-by-rows-requires : tie.Need-clear-by-rows-requires
 clear-by-rows-requires c κs = search needs
 
--- src/lib.rt:192:1
+-- src/lib.rt:196:1
 returns : tie.Need-returns
-returns c = by-parts (c .before .before .before .before .before .args .generation) (c .before .before .before .before .before .args .op) (c .before .before .before .before .clear-always .ensures) (c .before .before .before .clear-by-vectors .ensures) (c .before .before .clear-by-mode .ensures) (c .before .rows-each .ensures .0) (c .clear-by-rows .ensures)
+returns c =
+    let loaded = c .before .before in
+    let vectored = loaded .before .before in
+    let a = vectored .before .before .args in
+    by-parts (a .generation) (a .op) (vectored .before .clear-always .ensures) (vectored .clear-by-vectors .ensures)
+    (loaded .before .clear-by-mode .ensures) (loaded .clear-by-load .ensures) (c .before .rows-each .ensures .0) (c .clear-by-rows .ensures)
 
 pub vecint-operand-spec : {M : Type 1} → statement M
 vecint-operand-spec =
@@ -34,6 +43,7 @@ vecint-operand-spec =
     clear-always-requires
     clear-by-vectors-requires
     clear-by-mode-requires
+    clear-by-load-requires
     rows-each-requires
     clear-by-rows-requires
     returns)

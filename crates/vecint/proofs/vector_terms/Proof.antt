@@ -33,7 +33,17 @@ kept-terms-requires c κs = search needs
 
 -- src/lib.rt:346:1
 returns : tie.Need-returns
-returns c = terms-held (c .before .before .before .before .before .before .before .before .before .before .args .generation) (c .before .before .before .before .before .before .before .before .before .before .args .op) (c .before .before .before .before .before .before .before .before .before .before .args .state .now) (c .before .before .before .before .before .before .before .before .before .before .args .v) (c .before .before .before .before .before .before .before .before .before .before .args .how) (c .kept-terms .result) (c .before .before .before .before .before .before .before .before .x-bytes .result) (c .before .before .before .before .before .before .before .y-bytes .result) (c .before .before .before .before .before .x-side .result) (c .before .before .before .y-side .result) (c .before .before .vector-lanes .result) (c .before .vecint-shift .result) (c .before .before .before .before .before .before .before .before .before .before .pre .1) (c .before .before .before .before .before .before .before .before .x-bytes .ensures) (c .before .before .before .before .before .before .before .y-bytes .ensures) (c .before .before .before .before .before .x-side .ensures) (c .before .before .before .y-side .ensures) (c .before .before .vector-lanes .ensures .0) (c .before .before .vector-lanes .ensures .1) (c .before .vecint-shift .ensures .0) (c .before .vecint-shift .ensures .1) (c .kept-terms .ensures)
+returns c =
+    let sided = c .before .before .before in
+    let loaded = sided .before .before .before .before in
+    let turn = loaded .before .before .before in
+    let a = turn .args in
+    terms-held (a .generation) (a .op) (a .state .now) (a .v) (a .how) (c .kept-terms .result)
+    (loaded .before .x-bytes .result) (loaded .y-bytes .result) (sided .before .before .x-side .result) (sided .y-side .result)
+    (c .before .before .vector-lanes .result) (c .before .vecint-shift .result) (turn .pre .1) (turn .pre .0)
+    (loaded .before .x-bytes .ensures) (loaded .y-bytes .ensures) (sided .before .before .x-side .ensures) (sided .y-side .ensures)
+    (c .before .before .vector-lanes .ensures .0) (c .before .before .vector-lanes .ensures .1)
+    (c .before .vecint-shift .ensures .0) (c .before .vecint-shift .ensures .1) (c .kept-terms .ensures)
 
 pub vector-terms-spec : {M : Type 1} → statement M
 vector-terms-spec =

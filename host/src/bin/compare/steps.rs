@@ -104,34 +104,42 @@ fn sweep_mac16(random: &mut Random) -> Vec<Call> {
 }
 
 fn sweep_vecint(random: &mut Random) -> Vec<Call> {
-    const MODES: [u64; 10] = [0, 1, 2, 3, 4, 5, 6, 10, 11, 12];
+    // ALU modes, and indexed loads of X and Y with indices of 2 and 4 bits, as bits 47..53 have them
+    const KINDS: [u64; 14] = [0, 1, 2, 3, 4, 5, 6, 10, 11, 12, 64, 65, 66, 67];
     const WIDTHS: [u64; 8] = [0, 3, 4, 9, 10, 11, 12, 13];
     // signs, places and some of what is ignored; in mode 4 its switches, and no shuffle in others
-    let other = |random: &mut Random, mode| random.bits() & if mode == 4 { 0x8200_0200_7fff_ffff } else { 0x8200_0200_07ff_ffff };
+    let other = |random: &mut Random, kind| random.bits() & if kind == 4 { 0x8200_0200_7fff_ffff } else { 0x8200_0200_07ff_ffff };
     let mut operands = Vec::new();
-    for (mode, widths) in pairs(0..64, 16) {
-        let form = mode << 47 | widths << 42;
-        operands.push(form | other(random, mode));
+    // all that bits 47..53 can say: of indexed loads every register, and the bit that they ignore
+    for (kind, widths) in pairs(0..128, 16) {
+        let form = kind << 47 | widths << 42;
+        operands.push(form | other(random, kind));
         for (four, broadcast) in pairs(0..2, 8) {
-            operands.push(put(form | other(random, mode), 25, 25, four) | 1 << 31 | broadcast << 32);
+            operands.push(put(form | other(random, kind), 25, 25, four) | 1 << 31 | broadcast << 32);
         }
     }
-    for (mode, widths) in MODES.into_iter().flat_map(|mode| WIDTHS.map(|widths| (mode, widths))) {
-        let form = mode << 47 | widths << 42;
+    for (kind, widths) in KINDS.into_iter().flat_map(|kind| WIDTHS.map(|widths| (kind, widths))) {
+        let register = if kind < 64 { 0 } else { random.below(16) << 49 };
+        let form = kind << 47 | register | widths << 42;
         for value in 0..512 {
-            operands.push(form | value << 32 | random.below(32) << 58 | other(random, mode));
+            operands.push(form | value << 32 | random.below(32) << 58 | other(random, kind));
         }
         for (signs, shift) in pairs(0..4, 32) {
-            operands.push(put(put(form | shift << 58 | other(random, mode), 63, 63, signs & 1), 26, 26, signs >> 1));
+            operands.push(put(put(form | shift << 58 | other(random, kind), 63, 63, signs & 1), 26, 26, signs >> 1));
         }
         for (several, row) in pairs(0..2, 64) {
-            operands.push(put(form | other(random, mode), 20, 25, row) | several << 31);
+            operands.push(put(form | other(random, kind), 20, 25, row) | several << 31);
+        }
+        // both sides round the end of the ring, with one vector, two and four
+        for (offset, vectors) in pairs(448..512, 3) {
+            let placed = put(put(form | other(random, kind), 10, 18, offset), 0, 8, 959 - offset);
+            operands.push(put(placed, 25, 25, vectors / 2) | vectors.min(1) << 31);
         }
     }
-    for mode in MODES {
-        // shuffles, the indexed load and the reserved bits, and every bit turned
-        operands.extend((0..256).map(|bits| mode << 47 | (bits & 15) << 27 | (bits >> 4) << 53));
-        operands.extend((0..64).flat_map(|bit| [mode << 47 ^ 1 << bit, mode << 47 ^ 1 << 31 ^ 1 << bit]));
+    for form in KINDS.map(|kind| kind << 47) {
+        // shuffles and the reserved bits, beside every mode and an indexed load, and every bit turned
+        operands.extend((0..128).map(|bits| form | (bits & 15) << 27 | (bits >> 4) << 54));
+        operands.extend((0..64).flat_map(|bit| [form ^ 1 << bit, form ^ 1 << 31 ^ 1 << bit]));
     }
     // ALU mode 4: all its switches
     for (switches, shift) in pairs(0..16, 32) {

@@ -65,7 +65,8 @@ fn draw_list(random: &mut Random, adding: bool) -> Vec<Call> {
         if adding {
             call.operand &= match call.instruction {
                 14 => !(1 << 27),
-                // few rows and ALU modes 0 to 3, nothing that is refused
+                // few rows, and ALU modes 0 to 3 or an indexed load; nothing that is refused
+                _ if call.operand >> 53 & 1 == 1 => !(7 << 54 | 15 << 27 | 0x3e << 20),
                 _ => !(0x3fc << 47 | 15 << 27 | 0x3e << 20),
             };
         }
@@ -168,6 +169,12 @@ mod tests {
         assert!(allowed(&vecint(5 << 47), &vecint(1 << 54)));
         // an output that is forced to 0 does not add, X read as 0 does
         assert!(!allowed(&vecint(3 << 32), &vecint(0)) && allowed(&vecint(4 << 32), &vecint(0)));
+        // an indexed load adds as ALU mode 0 does, whatever mode its fields read as
+        for fields in 0..64 {
+            assert!(allowed(&vecint(1 << 53 | fields << 47), &vecint(0)));
+            assert!(!allowed(&vecint(1 << 53 | fields << 47), &vecint(3 << 42)));
+            assert!(!allowed(&vecint(1 << 53 | fields << 47 | 3 << 32), &vecint(0)));
+        }
         // on another length any two
         assert!(allowed(&Reach::of(5_119, Call::new(14, 1, 0)), &Reach::of(5_119, Call::new(14, 1, 1 << 62))));
     }
