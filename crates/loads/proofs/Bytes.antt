@@ -13,7 +13,7 @@ use lib.Seq.{getD-take}
 use Rattle.number.specs.Bytes.{byteAt, table}
 use Rattle.number.proofs.Bytes.{getD-table, table-same}
 use Rattle.number.proofs.Tests.{pick-true, pick-false}
-use Rattle.isa.specs.Operand.{bits, bit}
+use Rattle.isa.specs.Operand.{bit}
 use Rattle.isa.specs.State.{loaded, registerByte}
 use Rattle.isa.specs.Vecint as Vecint
 use Rattle.isa.proofs.Indexed.{in-register}

@@ -9,7 +9,7 @@ use lib.IntN.{ℤ, pos}
 use lib.ListN.{take, getD}
 use Rattle.number.specs.Bytes.{span, table}
 use Rattle.number.specs.Integers.{wrap, kept}
-use Rattle.isa.specs.Operand.{bits, bit}
+use Rattle.isa.specs.Operand.{bit}
 use Rattle.isa.specs.State.{zBase, lanesOf}
 use Rattle.isa.specs.Effect.{Effect}
 use Rattle.isa.specs.Vecint as Vecint

@@ -1,10 +1,9 @@
-use mathlib.Core.Path.{sym, ap, ap₂, _∙_}
-use mathlib.Core.Bool.{cond}
+use mathlib.Core.Path.{sym, ap, _∙_}
 use Prim.Native.Nat.{ℕ, _+_, _*_}
 use native.Mathlib.Nat.{mul-le-mul-right}
 use native.Mathlib.Omega.{arith}
 use Rattle.number.proofs.Tests.{pick-true, pick-false}
-use Rattle.loads.specs.Loads.{firstOf, repeatsOf}
+use Rattle.loads.specs.Loads.{firstOf}
 use borrow.Author.Needs.{needs}
 use Rattle.loads.proofs.offset.Statement.{statement}
 use Rattle.loads.proofs.offset.Tie as tie
