@@ -10,7 +10,8 @@ extern "C" {
 // The state's length in bytes: X at 0 (512 bytes), Y at 512 (512 bytes), Z at 1,024 (64 rows of 64 bytes). Lanes are little-endian.
 #define AMX_STATE_LENGTH 5120
 
-// Instructions: 14 is mac16, 18 is vecint. Generations: 1 is M1, 2 is M2.
+// Instructions: 14 is mac16, 18 is vecint. Generations: 1 is M1, 2 is M2. vecint with a shuffle (bits 27..30 not all 0 outside ALU mode 4) is
+// not covered and refused 4; with an indexed load (bit 53) it is done as ALU mode 0.
 
 // One step on a lent state. The bytes are the caller's: they are read and written during the call only, and no other call may use them
 // meanwhile. `state` points to `length` bytes; it may be any pointer that is not null where `length` is 0. A length other than 5,120 is

@@ -117,7 +117,7 @@ InRegister =
     (op b : ℕ) → (b ≡ 1) ⊎ (b ≡ 2) → (packed : ℕ → ℕ) (i : ℕ)
     → b * Vecint.indexAt (Vecint.indexBits op) packed (i / b) + i % b < rowBytes
 
--- "A done step .. n = Z lanes enabled": with bit 53 set a step is done, on both generations, unless bits 54..56 or 27..30 say otherwise
+-- with bit 53 set a step is done, on both generations, unless bits 54..56 or 27..30 say otherwise
 abbrev pub IndexedDone : Type 0
 IndexedDone =
     (gen op : ℕ) → (gen ≡ 1) ⊎ (gen ≡ 2) → bit op 53 ≡ true → bits op 54 56 ≡ 0 → bits op 27 30 ≡ 0
