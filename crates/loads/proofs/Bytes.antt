@@ -20,7 +20,7 @@ use Rattle.isa.proofs.Indexed.{in-register}
 use Rattle.operand.proofs.Fields.{bits-lt}
 use Rattle.operand.proofs.Widths.{x-cases, y-cases}
 use Rattle.sides.specs.Sides.{laneBytes}
-use Rattle.loads.specs.Loads.{indexBy, advanceBy, baseOf, indexesOf, widthOf, firstOf, repeatsOf, zeroOf, offsetOf, sideOf, bytesOf}
+use Rattle.loads.specs.Loads.{advanceBy, baseOf, indexesOf, widthOf, firstOf, repeatsOf, zeroOf, offsetOf, sideOf, bytesOf}
 
 in-table : (f : ℕ → ℕ) (i : ℕ) → i < 64 → byteAt (table f 0 64) i ≡ f i
 in-table f i h = getD-table f 0 0 64 i h ∙ ap f (zero-add i)
@@ -29,7 +29,7 @@ in-table f i h = getD-table f 0 0 64 i h ∙ ap f (zero-add i)
 
 -- the indices of 64 bytes lie in them
 index-same : (four : Bool) (f g : ℕ → ℕ) → ((i : ℕ) → i < 64 → f i ≡ g i) → (k : ℕ) → k < 64
-    → Vecint.indexAt (indexBy four) f k ≡ Vecint.indexAt (indexBy four) g k
+    → Vecint.indexAt (Vecint.indexWidth four) f k ≡ Vecint.indexAt (Vecint.indexWidth four) g k
 unfolding Vecint.indexAt
 index-same true f g same k h = ap (λ (x : ℕ). x / 2 ^ (k * 4 % 8) % 2 ^ 4) (same (k * 4 / 8) (omega arith))
 index-same false f g same k h = ap (λ (x : ℕ). x / 2 ^ (k * 2 % 8) % 2 ^ 2) (same (k * 2 / 8) (omega arith))
@@ -75,17 +75,17 @@ module _ (y : Bool) (gen op : ℕ) (s : List ℕ) (v : ℕ) {from : ℕ} {out : 
   pub when-indexed : {wide four : Bool} {step r : ℕ} {packed named : List ℕ} → wide ≡ eqb (widthOf y op) 2 → four ≡ bit op 48
       → step ≡ advanceBy four wide → from ≡ firstOf y op + cond (repeatsOf y gen op) 0 (step * v)
       → packed ≡ table (loaded s (baseOf y) from) 0 64 → r ≡ Vecint.register op → named ≡ table (loaded s (baseOf y) (64 * r)) 0 64
-      → out ≡ table (Vecint.picked (laneBytes wide) (indexBy four) (byteAt packed) (byteAt named)) 0 64
+      → out ≡ table (Vecint.picked (laneBytes wide) (Vecint.indexWidth four) (byteAt packed) (byteAt named)) 0 64
       → out ≡ table (sideOf y gen op s v true) 0 64
   unfolding Vecint.advance Vecint.sideByte Vecint.indexBits
   when-indexed ew ef es ea ep er en eo =
       let b = ap laneBytes ew ∙ lane-width (width-cases y op) in
-      let at = ea ∙ (λ t. firstOf y op + cond (repeatsOf y gen op) 0 ((es ∙ (λ t. 64 * indexBy (ef t) / (8 * b t))) t * v)) in
+      let at = ea ∙ (λ t. firstOf y op + cond (repeatsOf y gen op) 0 ((es ∙ (λ t. Vecint.advance true (Vecint.indexWidth (ef t)) (b t))) t * v)) in
       let ring : ℕ → ℕ = loaded s (baseOf y) (offsetOf y gen op v true) in
       let register : ℕ → ℕ = loaded s (baseOf y) (64 * Vecint.register op) in
       let ep′ = ep ∙ (λ t. table (loaded s (baseOf y) (at t)) 0 64) in
       let en′ = en ∙ ap (λ (x : ℕ). table (loaded s (baseOf y) (64 * x)) 0 64) er in
-      eo ∙ (λ t. table (Vecint.picked (b t) (indexBy (ef t)) (byteAt (ep′ t)) (byteAt (en′ t))) 0 64)
+      eo ∙ (λ t. table (Vecint.picked (b t) (Vecint.indexWidth (ef t)) (byteAt (ep′ t)) (byteAt (en′ t))) 0 64)
       ∙ table-same _ _ 64
       (picked-same op (widthOf y op) (width-cases y op) (byteAt (table ring 0 64)) ring (byteAt (table register 0 64))
       (registerByte s (baseOf y) (Vecint.register op)) (in-table ring) (λ i h. in-table register i h ∙ of-register op s (baseOf y) i h))

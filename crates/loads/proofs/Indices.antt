@@ -11,20 +11,21 @@ use Rattle.isa.specs.Operand.{bit}
 use Rattle.isa.specs.Vecint as Vecint
 use Rattle.operand.proofs.Branches.{and-on, and-off}
 use Rattle.sides.specs.Sides.{laneBytes}
-use Rattle.loads.specs.Loads.{indexBy, advanceBy, indexesOf}
+use Rattle.loads.specs.Loads.{advanceBy, indexesOf}
 
 -- ---- the width of an index, as a branch knows it
 
 module _ {four a : Bool} (e : four ≡ a) where
-  pub first-by : (k : ℕ) → k * indexBy a ≡ k * indexBy four
-  first-by k = λ t. k * indexBy (sym e t)
+  pub first-by : (k : ℕ) → k * Vecint.indexWidth a ≡ k * Vecint.indexWidth four
+  first-by k = λ t. k * Vecint.indexWidth (sym e t)
 
-  pub low-by : (n : ℕ) → n % 2 ^ indexBy a ≡ n % 2 ^ indexBy four
-  low-by n = λ t. n % 2 ^ indexBy (sym e t)
+  pub low-by : (n : ℕ) → n % 2 ^ Vecint.indexWidth a ≡ n % 2 ^ Vecint.indexWidth four
+  low-by n = λ t. n % 2 ^ Vecint.indexWidth (sym e t)
 
   pub picked-by : {wide b : Bool} → wide ≡ b → (packed named : ℕ → ℕ)
-      → table (Vecint.picked (laneBytes b) (indexBy a) packed named) 0 64 ≡ table (Vecint.picked (laneBytes wide) (indexBy four) packed named) 0 64
-  picked-by f packed named = λ t. table (Vecint.picked (laneBytes (sym f t)) (indexBy (sym e t)) packed named) 0 64
+      → table (Vecint.picked (laneBytes b) (Vecint.indexWidth a) packed named) 0 64
+      ≡ table (Vecint.picked (laneBytes wide) (Vecint.indexWidth four) packed named) 0 64
+  picked-by f packed named = λ t. table (Vecint.picked (laneBytes (sym f t)) (Vecint.indexWidth (sym e t)) packed named) 0 64
 
   pub advanced-by : {wide b : Bool} → wide ≡ b → advanceBy a b ≡ advanceBy four wide
   advanced-by f = λ t. advanceBy (sym e t) (sym f t)

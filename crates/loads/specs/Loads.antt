@@ -1,8 +1,8 @@
 -- The 64 bytes of X and of Y that a vector uses, as the code has them.
 -- Assumes nothing.
-use mathlib.Core.Bool.{Bool, cond}
+use mathlib.Core.Bool.{Bool, true, cond}
 use mathlib.Core.List.{List}
-use Prim.Native.Nat.{ℕ, _+_, _*_, _/_}
+use Prim.Native.Nat.{ℕ, _+_, _*_}
 use lib.ListN.{take}
 use Rattle.number.specs.Bytes.{table}
 use Rattle.isa.specs.Operand.{bits}
@@ -10,14 +10,9 @@ use Rattle.isa.specs.State.{xBase, yBase, zBase}
 use Rattle.isa.specs.Vecint as Vecint
 use Rattle.sides.specs.Sides.{laneBytes}
 
--- ---- indices
-
--- bits of an index
-abbrev pub indexBy : Bool → ℕ
-indexBy four = cond four 4 2
-
+-- how far the offset of an indexed load advances, by the widths of an index and of a lane
 abbrev pub advanceBy : Bool → Bool → ℕ
-advanceBy four wide = 64 * indexBy four / (8 * laneBytes wide)
+advanceBy four wide = Vecint.advance true (Vecint.indexWidth four) (laneBytes wide)
 
 -- ---- what isa says of Y, or of X
 

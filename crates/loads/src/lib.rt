@@ -6,14 +6,14 @@ ghost use lib.Dec.{eqb};
 ghost use Rattle.number.specs.Bytes.{byteAt, table};
 ghost use Rattle.isa.specs.Vecint as Vecint;
 ghost use Rattle.sides.specs.Sides.{laneBytes};
-ghost use Rattle.loads.specs.Loads.{indexBy, advanceBy, indexesOf, widthOf, firstOf, repeatsOf, zeroOf, sideOf, bytesOf};
+ghost use Rattle.loads.specs.Loads.{advanceBy, indexesOf, widthOf, firstOf, repeatsOf, zeroOf, sideOf, bytesOf};
 
 // ---- an indexed load
 
 // Where index k begins among the bits.
 fn first_bit(four: bool, k: usize) -> usize
     requires { ⌜ k < 64 ⌝ }
-    ensures { λ r. ⌜ (r ≡ k * indexBy four) × (r < 256) ⌝ }
+    ensures { λ r. ⌜ (r ≡ k * Vecint.indexWidth four) × (r < 256) ⌝ }
 {
     if four {
         return k * 4;
@@ -23,7 +23,7 @@ fn first_bit(four: bool, k: usize) -> usize
 
 // As many low bits as an index has.
 fn low_bits(four: bool, n: u8) -> usize
-    ensures { λ r. ⌜ (r ≡ n % 2 ^ indexBy four) × (r < 16) ⌝ }
+    ensures { λ r. ⌜ (r ≡ n % 2 ^ Vecint.indexWidth four) × (r < 16) ⌝ }
 {
     if four {
         return (n % 16) as usize;
@@ -34,7 +34,7 @@ fn low_bits(four: bool, n: u8) -> usize
 // Index k of those packed in 64 bytes.
 fn index_at(packed: &[u8; 64], four: bool, k: usize) -> usize
     requires { ⌜ k < 64 ⌝ }
-    ensures { λ r. ⌜ (r ≡ Vecint.indexAt (indexBy four) (byteAt (now (packed .entry))) k) × (r < 16) ⌝ }
+    ensures { λ r. ⌜ (r ≡ Vecint.indexAt (Vecint.indexWidth four) (byteAt (now (packed .entry))) k) × (r < 16) ⌝ }
 {
     let at = first_bit(four, k);
     low_bits(four, packed[at / 8] >> (at % 8))
@@ -43,7 +43,7 @@ fn index_at(packed: &[u8; 64], four: bool, k: usize) -> usize
 // Byte i of the elements that the indices name, of two bytes or of one.
 fn picked(packed: &[u8; 64], register: &[u8; 64], wide: bool, four: bool, i: usize) -> u8
     requires { ⌜ i < 64 ⌝ }
-    ensures { λ r. ⌜ r ≡ Vecint.picked (laneBytes wide) (indexBy four) (byteAt (now (packed .entry))) (byteAt (now (register .entry))) i ⌝ }
+    ensures { λ r. ⌜ r ≡ Vecint.picked (laneBytes wide) (Vecint.indexWidth four) (byteAt (now (packed .entry))) (byteAt (now (register .entry))) i ⌝ }
 {
     if wide {
         return register[2 * index_at(packed, four, i / 2) + i % 2];
@@ -53,7 +53,8 @@ fn picked(packed: &[u8; 64], register: &[u8; 64], wide: bool, four: bool, i: usi
 
 // The elements of a register that packed indices name.
 fn picks(packed: &[u8; 64], register: &[u8; 64], wide: bool, four: bool) -> [u8; 64]
-    ensures { λ r. ⌜ r ≡ table (Vecint.picked (laneBytes wide) (indexBy four) (byteAt (now (packed .entry))) (byteAt (now (register .entry)))) 0 64 ⌝ }
+    ensures { λ r. ⌜ r ≡ table (Vecint.picked (laneBytes wide) (Vecint.indexWidth four)
+        (byteAt (now (packed .entry))) (byteAt (now (register .entry)))) 0 64 ⌝ }
 {
     let mut out = [0u8; 64];
     for i in 0..64 {
@@ -64,7 +65,8 @@ fn picks(packed: &[u8; 64], register: &[u8; 64], wide: bool, four: bool) -> [u8;
 
 // The same, with the widths told to the compiler, which makes a loop for each.
 fn indexed(packed: &[u8; 64], register: &[u8; 64], wide: bool, four: bool) -> [u8; 64]
-    ensures { λ r. ⌜ r ≡ table (Vecint.picked (laneBytes wide) (indexBy four) (byteAt (now (packed .entry))) (byteAt (now (register .entry)))) 0 64 ⌝ }
+    ensures { λ r. ⌜ r ≡ table (Vecint.picked (laneBytes wide) (Vecint.indexWidth four)
+        (byteAt (now (packed .entry))) (byteAt (now (register .entry)))) 0 64 ⌝ }
 {
     if wide {
         if four {

@@ -47,10 +47,22 @@ laneY gen op = cond (Vecint.several gen op) 0 (Vecint.enableValue op)
 
 -- how the lanes of X are read; the same for Y
 abbrev pub xSideOf : ℕ → ℕ → SideForm
-xSideOf gen op = record { wide = eqb (Vecint.widths op .x) 2; sign = bit op 63; fixed = Vecint.broadcasts gen op 6 6; lane = 0; halved = eqb (Vecint.widths op .y) 1 }
+xSideOf gen op = record {
+  wide = eqb (Vecint.widths op .x) 2;
+  sign = bit op 63;
+  fixed = Vecint.broadcasts gen op 6 6;
+  lane = 0;
+  halved = eqb (Vecint.widths op .y) 1;
+}
 
 abbrev pub ySideOf : ℕ → ℕ → SideForm
-ySideOf gen op = record { wide = eqb (Vecint.widths op .y) 2; sign = bit op 26; fixed = fixedY gen op; lane = laneY gen op; halved = eqb (Vecint.widths op .x) 1 }
+ySideOf gen op = record {
+  wide = eqb (Vecint.widths op .y) 2;
+  sign = bit op 26;
+  fixed = fixedY gen op;
+  lane = laneY gen op;
+  halved = eqb (Vecint.widths op .x) 1;
+}
 
 -- a list that has the terms of vector v, each kept in 4 bytes
 abbrev pub HoldsTerms : ℕ → ℕ → List ℕ → ℕ → Alu → List ℤ → Type 0

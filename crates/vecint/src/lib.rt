@@ -326,7 +326,8 @@ fn vector_terms(state: &[u8], generation: u64, op: u64, v: usize, how: Alu) -> [
 
 // Vector v of a step in any mode but 4.
 fn alu_vector(state: &mut [u8], generation: u64, op: u64, v: usize, on: &[bool; 64])
-    requires { ⌜ (length (now state) ≡ stateLength) × (v < 64 / Vecint.stride generation op) × (Vecint.reduces op ≡ false) × (now on ≡ vecintMask generation op) ⌝ }
+    requires { ⌜ (length (now state) ≡ stateLength) × (v < 64 / Vecint.stride generation op)
+        × (Vecint.reduces op ≡ false) × (now on ≡ vecintMask generation op) ⌝ }
     ensures { λ _. ⌜ now (state .exit) ≡ applied (vectorEffect generation op v (now (state .entry))) (now (state .entry)) ⌝ }
 {
     let how = alu_by(generation, op);
@@ -360,7 +361,8 @@ fn reduce_by(generation: u64, op: u64) -> reduction::Reduce
 
 // Vector v of a step in mode 4: a row of Z.
 fn reduce_vector(state: &mut [u8], generation: u64, op: u64, v: usize, on: &[bool; 64])
-    requires { ⌜ (length (now state) ≡ stateLength) × (v < 64 / Vecint.stride generation op) × (Vecint.reduces op ≡ true) × (now on ≡ vecintMask generation op) ⌝ }
+    requires { ⌜ (length (now state) ≡ stateLength) × (v < 64 / Vecint.stride generation op)
+        × (Vecint.reduces op ≡ true) × (now on ≡ vecintMask generation op) ⌝ }
     ensures { λ _. ⌜ now (state .exit) ≡ applied (vectorEffect generation op v (now (state .entry))) (now (state .entry)) ⌝ }
 {
     let how = reduce_by(generation, op);
@@ -404,7 +406,8 @@ fn lanes_enabled(generation: u64, op: u64, on: &[bool; 64]) -> u64
 
 // vecint on a state of 5,120 bytes, and the count of enabled lanes; a state of another length stays as it is.
 pub fn step(state: &mut [u8], generation: u64, op: u64) -> u64
-    ensures { λ r. ⌜ (now (state .exit) ≡ cond (eqb (length (now (state .entry))) stateLength) (applied (Vecint.vecint generation op) (now (state .entry))) (now (state .entry)))
+    ensures { λ r. ⌜ (now (state .exit) ≡ cond (eqb (length (now (state .entry))) stateLength)
+        (applied (Vecint.vecint generation op) (now (state .entry))) (now (state .entry)))
         × (r ≡ cond (eqb (length (now (state .entry))) stateLength) (lanesOn (Vecint.vecint generation op)) 0) ⌝ }
 {
     if state.len() != 5120 {

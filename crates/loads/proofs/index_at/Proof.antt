@@ -2,7 +2,6 @@ use mathlib.Core.Path.{_∙_}
 use Prim.Native.Nat.{_/_, _%_, _^_}
 use Rattle.number.specs.Bytes.{byteAt}
 use Rattle.isa.specs.Vecint as Vecint
-use Rattle.loads.specs.Loads.{indexBy}
 use borrow.Author.Needs.{needs}
 use Rattle.loads.proofs.index_at.Statement.{statement}
 use Rattle.loads.proofs.index_at.Tie as tie
@@ -33,7 +32,7 @@ unfolding Vecint.indexAt
 returns c =
     let a = c .before .before .before .args in
     let at = c .before .before .first-bit .ensures .0 in
-    (c .low-bits .ensures .0 ∙ (λ t. byteAt (a .packed .now) (at t / 8) / 2 ^ (at t % 8) % 2 ^ indexBy (a .four)), c .low-bits .ensures .1)
+    (c .low-bits .ensures .0 ∙ (λ t. byteAt (a .packed .now) (at t / 8) / 2 ^ (at t % 8) % 2 ^ Vecint.indexWidth (a .four)), c .low-bits .ensures .1)
 
 pub index-at-spec : {M : Type 1} → statement M
 index-at-spec =

@@ -1,5 +1,5 @@
+use Rattle.isa.specs.Vecint as Vecint
 use Rattle.number.specs.Bytes.{byteAt}
-use Rattle.loads.specs.Loads.{indexBy}
 use Rattle.loads.proofs.Indices.{of-two-bytes, of-one-byte}
 use borrow.Author.Needs.{needs}
 use Rattle.loads.proofs.picked.Statement.{statement}
@@ -25,7 +25,7 @@ element-copy-out-result c = search needs
 returns : tie.Need-returns
 returns c =
     let a = c .before .before .before .args in
-    of-two-bytes (byteAt (a .packed .now)) (byteAt (a .register .now)) (indexBy (a .four)) (a .i)
+    of-two-bytes (byteAt (a .packed .now)) (byteAt (a .register .now)) (Vecint.indexWidth (a .four)) (a .i)
     (c .before .before .if1 .taken) (c .before .index-at .ensures .0)
 
 -- src/lib.rt:49:14
@@ -40,7 +40,7 @@ element-copy-out-result-2 c = search needs
 returns-2 : tie.Need-returns-2
 returns-2 c =
     let a = c .before .before .before .args in
-    of-one-byte (byteAt (a .packed .now)) (byteAt (a .register .now)) (indexBy (a .four)) (a .i)
+    of-one-byte (byteAt (a .packed .now)) (byteAt (a .register .now)) (Vecint.indexWidth (a .four)) (a .i)
     (c .before .before .if1 .left) (c .before .index-at2 .ensures .0)
 
 pub picked-spec : {M : Type 1} → statement M

@@ -9,13 +9,12 @@ use Rattle.number.specs.Bytes.{byteAt}
 use Rattle.number.proofs.Fill.{Filled, fill-more, fill-all}
 use Rattle.isa.specs.Vecint as Vecint
 use Rattle.sides.specs.Sides.{laneBytes}
-use Rattle.loads.specs.Loads.{indexBy}
 use borrow.Author.Needs.{needs}
 use Rattle.loads.proofs.picks.Statement.{statement}
 use Rattle.loads.proofs.picks.Tie as tie
 
 abbrev byte : List ℕ → List ℕ → Bool → Bool → ℕ → ℕ
-byte packed register wide four = Vecint.picked (laneBytes wide) (indexBy four) (byteAt packed) (byteAt register)
+byte packed register wide four = Vecint.picked (laneBytes wide) (Vecint.indexWidth four) (byteAt packed) (byteAt register)
 
 abbrev Inv-loop : tie.InvT-loop
 Inv-loop packed register wide four out₀ i₀ out i = (i ≤ 64) × (length out ≡ 64) × Filled 0 (byte packed register wide four) out i
