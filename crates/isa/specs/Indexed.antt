@@ -26,15 +26,15 @@ use Rattle.isa.specs.Guards.{Pin, pin}
 abbrev positions : List ℕ
 positions = table (λ p. p % 251) 0 1024
 
--- the first n bytes that X, and that Y, has for vector v
-abbrev xFirst : ℕ → ℕ → ℕ → ℕ → List ℤ
-xFirst gen op v n = map pos (table (Vecint.xBytes gen op positions v) 0 n)
-
-abbrev yFirst : ℕ → ℕ → ℕ → ℕ → List ℤ
-yFirst gen op v n = map pos (table (Vecint.yBytes gen op positions v) 0 n)
-
 abbrev numbers : List ℕ → List ℤ
 numbers = map pos
+
+-- the first n bytes that X, and that Y, has for vector v
+abbrev xFirst : ℕ → ℕ → ℕ → ℕ → List ℤ
+xFirst gen op v n = numbers (table (Vecint.xBytes gen op positions v) 0 n)
+
+abbrev yFirst : ℕ → ℕ → ℕ → ℕ → List ℤ
+yFirst gen op v n = numbers (table (Vecint.yBytes gen op positions v) 0 n)
 
 -- X, or Y, indexed into register 3, at lane widths w and X and Y offsets; indices of four bits with fourBits added
 abbrev indexedX : ℕ → ℕ → ℕ → ℕ

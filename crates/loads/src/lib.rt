@@ -194,6 +194,7 @@ fn plain_bytes(state: &[u8], generation: u64, op: u64, y: bool, v: usize) -> [u8
 }
 
 // ---- X and Y, for vector v of four at most, and 0 where the mode leaves the side out
+// A function for each, since one for both is not inlined, and every step then pays for the call.
 
 pub fn x_bytes(state: &[u8], generation: u64, op: u64, v: usize, skip: bool) -> [u8; 64]
     ensures { λ r. ⌜ r ≡ bytesOf false generation op (now (state .entry)) (v % 4) skip ⌝ }
