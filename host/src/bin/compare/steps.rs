@@ -72,12 +72,12 @@ pub fn swept(random: &mut Random, tally: &mut Tally) -> Result<u64, String> {
 const PLACES: u64 = 0x3f7_fdff;
 
 /// Both generations of each operand.
-fn on_both(instruction: u64, operands: Vec<u64>) -> Vec<Call> {
+pub fn on_both(instruction: u64, operands: Vec<u64>) -> Vec<Call> {
     operands.into_iter().flat_map(|operand| [1, 2].map(|generation| Call::new(instruction, generation, operand))).collect()
 }
 
 /// Every item with every number below n.
-fn pairs(items: impl IntoIterator<Item = u64>, n: u64) -> impl Iterator<Item = (u64, u64)> {
+pub fn pairs(items: impl IntoIterator<Item = u64>, n: u64) -> impl Iterator<Item = (u64, u64)> {
     items.into_iter().flat_map(move |item| (0..n).map(move |number| (item, number)))
 }
 

@@ -1,0 +1,49 @@
+//! The lanes that a step counts, for every enable mode, value and lane width.
+use crate::case::Step;
+use crate::steps::{on_both, pairs};
+use amx::{Call, reference, text::print_call};
+
+/// Every mode and value of X's mask with every one of Y's, in a vector step, matrix 16 and matrix 32.
+fn mac16() -> Vec<u64> {
+    [1 << 63, 0, 1 << 62].into_iter().flat_map(|form| pairs(0..128, 128).map(move |(x, y)| form | x << 41 | y << 32)).collect()
+}
+
+/// Every mode and value with every number of lane widths, read as X, Y and Z (ALU mode 0), as Z and saturation (4) and not at all (5),
+/// in one vector, two and four.
+fn vecint() -> Vec<u64> {
+    let forms =
+        pairs([0, 4, 5], 16).flat_map(|(mode, widths)| [0, 1 << 31, 1 << 31 | 1 << 25].map(|vectors| mode << 47 | widths << 42 | vectors));
+    forms.flat_map(|form| (0..512).map(move |enable| form | enable << 32)).collect()
+}
+
+/// Compares the lanes that a step counts with the reference's walk over them, in every case. The number of cases.
+pub fn every(step: Step) -> Result<usize, String> {
+    let calls: Vec<Call> = on_both(14, mac16()).into_iter().chain(on_both(18, vecint())).collect();
+    let mut state = vec![0; 5_120];
+    for &call in &calls {
+        let counted = step(&mut state, call);
+        let walked = reference::lanes(call.instruction, call.generation, call.operand).len() as u64;
+        if counted != walked {
+            return Err(format!("{} counts {counted} lanes, and there are {walked}", print_call(call)));
+        }
+    }
+    Ok(calls.len())
+}
+
+#[cfg(test)]
+mod tests {
+    use super::*;
+    use crate::case::second;
+
+    #[test]
+    fn one_wrong_count_is_found() {
+        // one lane short where widths 13, lanes of 16 and 8 bits, have the last 7 of each side
+        fn short(state: &mut [u8], call: Call) -> u64 {
+            let wrong = call.instruction == 18 && call.operand == 13 << 42 | 3 << 38 | 7 << 32;
+            second(state, call) - u64::from(wrong)
+        }
+        let report = every(short).unwrap_err();
+        assert!(report.contains("widths=13") && report.contains("counts 6 lanes, and there are 7"), "{report}");
+        assert_eq!(every(second), Ok(2 * (3 * 128 * 128 + 3 * 16 * 3 * 512)));
+    }
+}
