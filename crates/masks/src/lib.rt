@@ -1,5 +1,5 @@
 // Masks: the lanes that an enable mode enables, as one number whose bit k tells of lane k. A mask has 64 places, as many as any form has lanes;
-// in those past a form's lanes it has what the rule says there, and nothing reads them. Every function that other crates may call takes every argument.
+// those past a form's lanes have what the rule says there, and neither a row nor a count takes them in. Every open function takes every argument.
 ghost use mathlib.Core.Path.{_≡_};
 ghost use mathlib.Core.Bool.{cond, _||_};
 ghost use Prim.Native.Nat.{_%_, _<_, _≤_};
@@ -17,6 +17,7 @@ const ALL: u64 = 0xffff_ffff_ffff_ffff;
 
 // ---- what both instructions have
 
+// All lanes or none.
 fn all_if(on: bool) -> u64
     ensures { λ r. ⌜ r ≡ maskOf (λ k. on) 64 ⌝ }
 {
@@ -33,7 +34,7 @@ fn first(n: u64) -> u64
     (1u64 << n) - 1
 }
 
-// The last n of so many lanes.
+// The last n of so many lanes, and the places past them.
 fn last(lanes: u64, n: u64) -> u64
     ensures { λ r. ⌜ r ≡ maskOf (Enable.last lanes n) 64 ⌝ }
 {
@@ -43,6 +44,7 @@ fn last(lanes: u64, n: u64) -> u64
     !first(lanes - n)
 }
 
+// The same where no lane, n of 0, stands for all lanes.
 fn first_or_all(n: u64) -> u64
     ensures { λ r. ⌜ r ≡ maskOf (firstOrAll n) 64 ⌝ }
 {
@@ -61,6 +63,7 @@ fn last_or_all(lanes: u64, n: u64) -> u64
     last(lanes, n)
 }
 
+// Of the wider of two sides, each lane has two places.
 fn odd(halved: bool) -> u64
     ensures { λ r. ⌜ r ≡ maskOf (λ k. eqb (laneUsed halved k % 2) 1) 64 ⌝ }
 {
@@ -88,6 +91,7 @@ fn by_parity(n: u64, other: bool, halved: bool) -> u64
 
 // ---- mac16
 
+// Lane n alone.
 fn only(n: u64) -> u64
     ensures { λ r. ⌜ r ≡ maskOf (λ k. eqb k n) 64 ⌝ }
 {
@@ -115,7 +119,7 @@ pub fn mac16_mask(mode: u64, n: u64) -> u64
 
 // ---- vecint
 
-// The places that n lanes take: of the wider of two sides, every lane has two.
+// The places that n lanes take.
 fn places(n: u8, halved: bool) -> u64
     ensures { λ r. ⌜ r ≡ placesOf halved n ⌝ }
 {
