@@ -30,7 +30,7 @@ OnesAreCounted = (m lanes : ℕ) → ones (m % 2 ^ lanes) ≡ count (bit m) lane
 abbrev pub laneUsed : Bool → ℕ → ℕ
 laneUsed halved k = cond halved (k / 2) k
 
--- the lanes k that use one of n lanes
+-- how many lanes k the first n lanes of a side serve
 abbrev pub placesOf : Bool → ℕ → ℕ
 placesOf halved n = cond halved (2 * n) n
 

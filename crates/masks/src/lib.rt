@@ -214,7 +214,7 @@ fn up_to_64(n: usize) -> u64
     if n < 64 { n as u64 } else { 64 }
 }
 
-// How many of the first n lanes are enabled. All lanes, the commonest mask, need no count.
+// How many of the first n lanes are enabled. All lanes need no count.
 pub fn count_first(mask: u64, n: usize) -> u64
     ensures { λ r. ⌜ (r ≡ count (bit mask) (cond (ltb n 64) n 64)) × (r ≤ 64) ⌝ }
 {
