@@ -80,7 +80,7 @@ static uint64_t mac16(uint8_t *state, uint64_t op) {
     uint8_t *z = state + 1024;
     if (bit(op, 63)) {
         row16(z + 64 * field(op, 20, 25), x, mask, y, shift, keep);
-        return nx;
+        return 2 * nx;
     }
     if (bit(op, 62)) {
         int16_t xs[2][16];
@@ -91,7 +91,7 @@ static uint64_t mac16(uint8_t *state, uint64_t op) {
         }
         for (int j = 0; j < 32; j++)
             for (int p = 0; yon[j] && p < 2; p++) row32(z + 64 * (2 * j + p), xs[p], masks[p], y[j], shift, keep);
-        return nx * ny;
+        return 4 * nx * ny;
     }
     for (int j = 0; j < 32; j++) {
         if (!yon[j]) continue;
@@ -99,7 +99,7 @@ static uint64_t mac16(uint8_t *state, uint64_t op) {
         for (int i = 0; i < 32; i++) same[i] = y[j];
         row16(z + 64 * (2 * j + field(op, 20, 20)), x, mask, same, shift, keep);
     }
-    return nx * ny;
+    return 2 * nx * ny;
 }
 
 enum { NO_OP = 65536, REFUSED = 131072, ROUND = 1 << 14 };
@@ -135,7 +135,8 @@ static void widths(struct vecint *v, unsigned number) {
 }
 
 static struct vecint decode(uint64_t op, unsigned mode, bool several) {
-    struct vecint v = {.mode = mode, .shift = field(op, 58, 62), .xstep = 64, .ystep = 64, .xlane = -1, .ylane = -1, .xsigned = bit(op, 63), .ysigned = bit(op, 26)};
+    struct vecint v = {.mode = mode, .shift = field(op, 58, 62), .xstep = 64, .ystep = 64, .xlane = -1, .ylane = -1,
+                       .xsigned = bit(op, 63), .ysigned = bit(op, 26)};
     widths(&v, field(op, 42, 45));
     v.stride = !several ? 64 : bit(op, 25) ? 16 : 32;
     v.row = (field(op, 20, 25) & (v.stride - 1)) & -v.rows;
@@ -348,7 +349,7 @@ static uint64_t vecint(uint8_t *state, unsigned generation, uint64_t op) {
         else terms(term, x, y, &v);
         add(z, term, mask, &v);
     }
-    return on * (64 / v.stride);
+    return on * v.z * (64 / v.stride);
 }
 
 uint64_t NAME(uint8_t *state, uint64_t length, uint64_t instruction, uint64_t generation, uint64_t operand) {

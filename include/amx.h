@@ -15,8 +15,8 @@ extern "C" {
 
 // One step on a lent state. The bytes are the caller's: they are read and written during the call only, and no other call may use them
 // meanwhile. `state` points to `length` bytes; it may be any pointer that is not null where `length` is 0. A length other than 5,120 is
-// refused 1. Answers the number of Z lanes enabled (done), or 65,536 + the reason of a no-op, or 131,072 + the number of a refusal;
-// a no-op and a refusal change no byte.
+// refused 1. Answers the number of Z bytes in the lanes enabled, 0 to 4,096 (done), or 65,536 + the reason of a no-op, or 131,072 + the number
+// of a refusal; a no-op and a refusal change no byte.
 uint64_t amx_step(uint8_t *state, uint64_t length, uint64_t instruction, uint64_t generation, uint64_t operand);
 
 // 0 where the step would be done on a state of 5,120 bytes, or the step's own number of a no-op or a refusal.

@@ -1,7 +1,8 @@
 #!/usr/bin/env python3
 """The stored traces and the text that each must print.
 
-A second source: both instructions, the answers and the trace file are written here from the scope paper and its changes alone, and share nothing with the crates.
+A second source: both instructions, the answers and the trace file are written here from the scope paper and its changes alone,
+and share nothing with the crates.
 Run from the top of the repository, it writes data/, args and stdout of the programs crates/amx_trace and crates/traces anew.
 """
 import pathlib
@@ -66,7 +67,7 @@ def factors(state, base, offset, is_i8):
 
 
 def mac16(state, op):
-    """Runs a done step and gives the number of its enabled lanes."""
+    """Runs a done step and gives the number of Z bytes in its enabled lanes."""
     x = factors(state, 0, bits(op, 10, 9), bits(op, 61, 1))
     y = factors(state, 512, bits(op, 0, 9), bits(op, 60, 1))
     x_on = [i for i in range(32) if mac16_enable(bits(op, 46, 2), bits(op, 41, 5), i)]
@@ -82,7 +83,7 @@ def mac16(state, op):
         value = 0 if skip_x and skip_y else x[i] if skip_y else y[j] if skip_x else x[i] * y[j]
         old = 0 if skip_z else number(z_row(state, row), width, lane, True)
         store(state, row, width, lane, old + (value >> bits(op, 55, 5)))
-    return len(places)
+    return sum(width // 8 for _, _, _, width, _ in places)
 
 
 # ---- vecint
@@ -96,7 +97,8 @@ def alu_mode(op):
 
 
 def side(state, op, base, offset, width, v, repeats):
-    """The 64 bytes that X (base 0) or Y (base 512) gives to vector v: those at the offset, or the elements of the named register that the indices there choose."""
+    """The 64 bytes that X (base 0) or Y (base 512) gives to vector v: those at the offset, or the elements of the named register that
+    the indices there choose."""
     indexed = bits(op, 53, 1) and base == 512 * bits(op, 47, 1)
     index = 4 if bits(op, 48, 1) else 2
     advance = 0 if repeats else 64 * index // width if indexed else 64
@@ -132,7 +134,7 @@ def vector_4(state, op, row, enable, value, zero):
     for k in on:
         z = number(z_row(state, row), width, k, bits(op, 63, 1))
         store(state, row, width, k, 0 if zero else reduced(op, z, saturation))
-    return len(on)
+    return len(on) * width // 8
 
 
 def vector(state, op, mode, widths, row, x, y, x_lane, y_lane, enable, value, zero):
@@ -151,7 +153,7 @@ def vector(state, op, mode, widths, row, x, y, x_lane, y_lane, enable, value, ze
         b = number(y, y_width, k * narrow // y_width if y_lane is None else y_lane % (512 // y_width), bits(op, 26, 1))
         z = number(z_row(state, at), z_width, lane, True)
         store(state, at, z_width, lane, 0 if zero else result(mode, a, b, z, bits(op, 58, 5)))
-    return len(on)
+    return len(on) * z_width // 8
 
 
 def vecint(state, generation, op):
@@ -272,7 +274,8 @@ def mixed_widths(rng):
 
 
 def indexed_loads(rng):
-    """Indexed loads of both sides by indices of both widths, at random places: widths, vectors, broadcast modes, masks, registers. At the end, each bit that is ignored or turns one away."""
+    """Indexed loads of both sides by indices of both widths, at random places: widths, vectors, broadcast modes, masks, registers.
+    At the end, each bit that is ignored or turns one away."""
     widths = (0, 3, 10, 11, 12, 13)
     two, four = dict(several=1), dict(several=1, four=1)
     masks = ((0, 2), (0, 3), (0, 4), (0, 5), (1, 33), (2, 5), (5, 40), (6, 0))

@@ -3,20 +3,28 @@ use std::fmt;
 const NO_OP: u64 = 65_536;
 const REFUSED: u64 = 131_072;
 
+/// The bytes of Z, which are the most that a step can report.
+const MOST: u64 = 4_096;
+
 /// What a step answers. A no-op and a refusal leave every byte of the state as it was.
 ///
-/// `{}` writes the words of a step line, `{:#}` the reason as well.
+/// `{}` writes the words of a step line, `{:#}` what the number is as well.
 ///
 /// ```
 /// use amx::{Answer, Reason};
 /// let answer = Answer::NoOp(Reason::LaterMode);
 /// assert_eq!(answer.to_string(), "no-op 3");
 /// assert_eq!(format!("{answer:#}"), "no-op 3: ALU modes 10 to 12 are not on M1");
+/// let answer = Answer::Done { bytes: 64 };
+/// assert_eq!((answer.to_string(), format!("{answer:#}")), ("done 64".to_owned(), "done 64 bytes".to_owned()));
 /// ```
 #[derive(Clone, Copy, Debug, PartialEq, Eq, Hash)]
 pub enum Answer {
-    /// The step was done, with the number of Z lanes that it enabled; 0 is possible.
-    Done(u64),
+    /// The step was done.
+    Done {
+        /// The bytes of Z in lanes that it enabled, 0 to 4,096. Those of several steps may be summed, whatever their lane widths.
+        bytes: u64,
+    },
     /// The chip would do nothing either.
     NoOp(Reason),
     /// The unit does not cover the call.
@@ -48,7 +56,7 @@ pub enum Refusal {
 }
 
 impl Answer {
-    /// The answer as the C interface gives it: the lane count, 65,536 + a reason, 131,072 + a refusal.
+    /// The answer as the C interface gives it: the bytes, 65,536 + a reason, 131,072 + a refusal.
     ///
     /// ```
     /// use amx::{Answer, Refusal};
@@ -56,7 +64,7 @@ impl Answer {
     /// ```
     pub fn number(self) -> u64 {
         match self {
-            Answer::Done(lanes) => lanes,
+            Answer::Done { bytes } => bytes,
             Answer::NoOp(reason) => NO_OP + reason as u64,
             Answer::Refused(refusal) => REFUSED + refusal as u64,
         }
@@ -67,12 +75,14 @@ impl Answer {
     /// ```
     /// use amx::{Answer, Reason};
     /// assert_eq!(Answer::from_number(65_537), Some(Answer::NoOp(Reason::ReservedBits)));
+    /// assert_eq!((Answer::from_number(4_096), Answer::from_number(4_097)), (Some(Answer::Done { bytes: 4_096 }), None));
     /// assert_eq!(Answer::from_number(65_536), None);
     /// ```
     pub fn from_number(number: u64) -> Option<Self> {
         use {Reason::*, Refusal::*};
         match number {
-            0..NO_OP => Some(Answer::Done(number)),
+            0..=MOST => Some(Answer::Done { bytes: number }),
+            ..NO_OP => None,
             NO_OP..REFUSED => {
                 [ReservedBits, ReservedMode, LaterMode].into_iter().find(|&reason| reason as u64 == number - NO_OP).map(Answer::NoOp)
             }
@@ -85,14 +95,15 @@ impl Answer {
 
     /// Whether the step was done.
     pub fn is_done(self) -> bool {
-        matches!(self, Answer::Done(_))
+        matches!(self, Answer::Done { .. })
     }
 }
 
 impl fmt::Display for Answer {
     fn fmt(&self, f: &mut fmt::Formatter) -> fmt::Result {
         match self {
-            Answer::Done(lanes) => write!(f, "done {lanes}"),
+            Answer::Done { bytes } if f.alternate() => write!(f, "done {bytes} bytes"),
+            Answer::Done { bytes } => write!(f, "done {bytes}"),
             Answer::NoOp(reason) if f.alternate() => write!(f, "no-op {}: {reason}", *reason as u8),
             Answer::NoOp(reason) => write!(f, "no-op {}", *reason as u8),
             Answer::Refused(refusal) if f.alternate() => write!(f, "refused {}: {refusal}", *refusal as u8),

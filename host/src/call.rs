@@ -86,7 +86,7 @@ impl Call {
 /// state.set_lane(Register::Z(5), 0, Width::Bits16, 10);
 ///
 /// let call = Call::mac16(Generation::M1, Mac16::new().vector(true).z_row(5)?);
-/// assert_eq!(step(&mut state, call), Answer::Done(32));
+/// assert_eq!(step(&mut state, call), Answer::Done { bytes: 64 });
 /// assert_eq!(state.signed_lane(Register::Z(5), 0, Width::Bits16), 4);
 /// # Ok::<(), amx::FieldError>(())
 /// ```
@@ -99,7 +99,7 @@ pub fn step(state: &mut State, call: Call) -> Answer {
 /// ```
 /// use amx::{Answer, Refusal, step_bytes};
 /// assert_eq!(step_bytes(&mut [0; 5_119], 14, 1, 0), Answer::Refused(Refusal::StateLength));
-/// assert_eq!(step_bytes(&mut [0; 5_120], 14, 1, 1 << 63), Answer::Done(32));
+/// assert_eq!(step_bytes(&mut [0; 5_120], 14, 1, 1 << 63), Answer::Done { bytes: 64 });
 /// ```
 pub fn step_bytes(state: &mut [u8], instruction: u64, generation: u64, operand: u64) -> Answer {
     answered(unit::step(state, instruction, generation, operand))
@@ -125,7 +125,7 @@ pub fn normal(call: Call) -> Result<u64, Answer> {
 /// ```
 /// use amx::{Answer, Call, Reason, State, run};
 /// let calls = [Call::new(14, 1, 1 << 63), Call::new(18, 1, 1 << 54)];
-/// assert_eq!(run(&mut State::new(), &calls), [Answer::Done(32), Answer::NoOp(Reason::ReservedBits)]);
+/// assert_eq!(run(&mut State::new(), &calls), [Answer::Done { bytes: 64 }, Answer::NoOp(Reason::ReservedBits)]);
 /// ```
 pub fn run(state: &mut State, calls: &[Call]) -> Vec<Answer> {
     calls.iter().map(|&call| step(state, call)).collect()

@@ -90,7 +90,7 @@ impl fmt::Display for Explanation {
         if self.answer.is_done() {
             writeln!(f, "normal operand {:#018x}", self.normal)?;
         }
-        writeln!(f, "answer: {:#}{}", self.answer, if self.answer.is_done() { " lanes" } else { "" })
+        writeln!(f, "answer: {:#}", self.answer)
     }
 }
 
@@ -241,12 +241,12 @@ fn widths(mode: u64, number: u64) -> &'static str {
 
 /// The Z lanes that a call enables, as text: a line for each row that has any, `#` for an enabled lane and `.` for one that is not.
 ///
-/// The places are the [`mod@reference`]'s; the count in the first line is the proved step's answer.
+/// The places are the [`mod@reference`]'s; the bytes in the first line are the proved step's answer.
 ///
 /// ```
 /// use amx::{Call, Generation, Mac16, lane_grid};
 /// let call = Call::mac16(Generation::M1, Mac16::new().vector(true).z_row(7)?.x_enable_mode(2)?.x_enable_value(3)?);
-/// assert_eq!(lane_grid(call), "done 3, lanes of 16 bits\nz 7   ###.............................\n");
+/// assert_eq!(lane_grid(call), "done 6 bytes, lanes of 16 bits\nz 7   ###.............................\n");
 /// # Ok::<(), amx::FieldError>(())
 /// ```
 pub fn lane_grid(call: Call) -> String {
@@ -259,5 +259,5 @@ pub fn lane_grid(call: Call) -> String {
     lanes.iter().for_each(|lane| grid[lane.row][lane.lane] = b'#');
     let rows = grid.iter().enumerate().filter(|(_, row)| row.contains(&b'#'));
     let rows: String = rows.map(|(number, row)| format!("z {number:<3} {}\n", String::from_utf8_lossy(row))).collect();
-    format!("{answer}, lanes of {} bits\n{rows}", 8 * bytes)
+    format!("{answer:#}, lanes of {} bits\n{rows}", 8 * bytes)
 }

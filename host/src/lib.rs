@@ -15,7 +15,7 @@
 //! state.set_lane(Register::Y(0), 0, Width::Bits8, -1);
 //! let fields = Vecint::new(0, Vectors::One)?.lane_widths(11)?.y_signed(true)?;
 //!
-//! assert_eq!(step(&mut state, Call::vecint(Generation::M1, fields)), Answer::Done(64));
+//! assert_eq!(step(&mut state, Call::vecint(Generation::M1, fields)), Answer::Done { bytes: 128 });
 //! assert_eq!(state.signed_lane(Register::Z(0), 0, Width::Bits16), -255);
 //! # Ok::<(), amx::FieldError>(())
 //! ```

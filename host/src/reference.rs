@@ -1,8 +1,8 @@
 //! A second program for the same pages: both instructions, the normal operand, the terms of the swap rule and the trace text.
 //!
 //! Written from the scope's text lane by lane, for plainness and not for speed. It shares no code with the proved unit nor with the rest
-//! of this crate, so that a misreading in one of them shows when they are compared. Answers are the host's numbers: the lane count,
-//! 65,536 + the reason of a no-op, 131,072 + the number of a refusal.
+//! of this crate, so that a misreading in one of them shows when they are compared. Answers are the host's numbers: the Z bytes in
+//! enabled lanes, 65,536 + the reason of a no-op, 131,072 + the number of a refusal.
 
 const NO_OP: u64 = 65_536;
 const REFUSED: u64 = 131_072;
@@ -100,7 +100,7 @@ pub fn step(state: &mut [u8], instruction: u64, generation: u64, operand: u64) -
         14 => mac16(state, &enabled, operand),
         _ => vecint(state, &enabled, generation, operand),
     }
-    enabled.len() as u64
+    enabled.iter().map(|lane| lane.bytes as u64).sum()
 }
 
 /// 64 bytes of X or Y, round the 512-byte ring.

@@ -28,7 +28,7 @@ pub struct Record {
 /// trace.push(Record { instruction: 18, generation: 1, operand: 1 << 54 })?;
 ///
 /// assert_eq!(Trace::from_bytes(&trace.to_bytes()), Ok(trace.clone()));
-/// let text = format!("step 0 done 32\nstep 1 no-op 1\nz 0 0600{}\nsteps 2\n", "0".repeat(124));
+/// let text = format!("step 0 done 64\nstep 1 no-op 1\nz 0 0600{}\nsteps 2\n", "0".repeat(124));
 /// assert_eq!(trace.text(), text);
 /// # Ok::<(), amx::TraceFull>(())
 /// ```

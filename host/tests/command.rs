@@ -61,7 +61,7 @@ fn name(path: &Path) -> &str {
 const SAMPLE: &str = "# the scope's sample\nx: 03\ny: 02\nmac16 m1 vector\nvecint m1 reserved=1\n";
 
 fn sample_text() -> String {
-    format!("step 0 done 32\nstep 1 no-op 1\nz 0 0600{}\nsteps 2\n", "0".repeat(124))
+    format!("step 0 done 64\nstep 1 no-op 1\nz 0 0600{}\nsteps 2\n", "0".repeat(124))
 }
 
 #[test]
@@ -172,7 +172,7 @@ fn an_operand_is_explained() {
         "ignored and set: bit 57\n",
         "ignored here: bits 9, 19, 24, 35..41, 46, 57\n",
         "normal operand 0x8000000082300040\n",
-        "answer: done 128 lanes\n",
+        "answer: done 256 bytes\n",
     ] {
         assert!(text.contains(line), "{line}in\n{text}");
     }
@@ -212,7 +212,7 @@ fn an_indexed_load_is_explained() {
         "ignored and set: bit 52\n",
         "ignored here: bits 9, 19..20, 24, 35..41, 46, 52, 57\n",
         "normal operand 0x00272c0082032000\n",
-        "answer: done 256 lanes\n",
+        "answer: done 512 bytes\n",
     ] {
         assert!(text.contains(line), "{line}in\n{text}");
     }
@@ -229,7 +229,7 @@ fn an_indexed_load_is_explained() {
     }
     // no mode's words, though the register's bits read as mode 4; and bit 52 is the mode's without an indexed load
     let text = said(&["explain", "vecint m1 indexed index_register=1 widths=3"]);
-    assert!(text.contains("X 16, Y 16, Z 32 bits\n") && text.ends_with("answer: done 32 lanes\n"), "{text}");
+    assert!(text.contains("X 16, Y 16, Z 32 bits\n") && text.ends_with("answer: done 128 bytes\n"), "{text}");
     assert!(said(&["explain", "vecint m1"]).contains("ignored here: bits 9, 19, 31, 41, 46, 57\n"));
     assert!(said(&["explain", "vecint m2 indexed y_shuffle=2"]).contains("answer: refused 4: shuffles"));
     assert!(said(&["explain", "vecint m2 indexed y_shuffle=2 reserved=4"]).contains("answer: no-op 1: bits 54..56"));
@@ -243,13 +243,13 @@ fn indexed_loads_are_assembled_run_and_taken_apart() {
     let text = room.write("indexed.txt", format!("x: 1b\nx 1: 0a00 1400 1e00 2800\ny: 0100 0100 0100 0100\n{steps}"));
     let trace = room.0.join("indexed.amx");
     said(&["asm", name(&text), "-o", name(&trace)]);
-    let expected = format!("step 0 done 32\nstep 1 refused 4\nz 0 28001e0014000a00{}\nsteps 2\n", "0".repeat(112));
+    let expected = format!("step 0 done 64\nstep 1 refused 4\nz 0 28001e0014000a00{}\nsteps 2\n", "0".repeat(112));
     assert_eq!(said(&["run", name(&trace)]), expected);
     assert_eq!(reference::trace(&fs::read(&trace).unwrap()), expected);
     assert!(said(&["dis", name(&trace)]).ends_with(steps));
     assert!(
         said(&["lanes", "vecint m1 indexed index_register=1 widths=12 enable_value=1"])
-            .starts_with("done 16, lanes of 32 bits\nz 3   ####")
+            .starts_with("done 64 bytes, lanes of 32 bits\nz 3   ####")
     );
 }
 
@@ -257,29 +257,30 @@ fn indexed_loads_are_assembled_run_and_taken_apart() {
 fn lanes_are_shown() {
     assert_eq!(
         said(&["lanes", "vecint", "m1", "widths=3", "enable_mode=4", "enable_value=5", "z_row=9"]),
-        "done 5, lanes of 32 bits\nz 8   ###.............\nz 9   ##..............\n"
+        "done 20 bytes, lanes of 32 bits\nz 8   ###.............\nz 9   ##..............\n"
     );
     // widths 12 and 13: allowed by X's mask and by Y's
-    assert_eq!(said(&["lanes", "vecint m1 widths=12 enable_value=1 z_row=9"]), "done 16, lanes of 32 bits\nz 11  ################\n");
+    assert_eq!(said(&["lanes", "vecint m1 widths=12 enable_value=1 z_row=9"]), "done 64 bytes, lanes of 32 bits\nz 11  ################\n");
     assert_eq!(
         said(&["lanes", "vecint m1 widths=13 enable_mode=2 enable_value=5"]),
-        "done 5, lanes of 32 bits\nz 0   ##..............\nz 1   #...............\nz 2   #...............\nz 3   #...............\n"
+        "done 20 bytes, lanes of 32 bits\nz 0   ##..............\nz 1   #...............\nz 2   #...............\nz 3   #...............\n"
     );
-    assert_eq!(said(&["lanes", "vecint m1 enable_mode=6"]), "done 0\n");
+    assert_eq!(said(&["lanes", "vecint m1 enable_mode=6"]), "done 0 bytes\n");
     assert_eq!(said(&["lanes", "14", "3", "0"]), "refused 2: the generation is not 1 or 2\n");
     assert_eq!(said(&["lanes", "14", "1", "0"]).lines().count(), 33);
 }
 
-/// The lanes that are shown are as many as the proved step says, whatever the step.
+/// The lanes that are shown have as many bytes as the proved step says, whatever the step.
 #[test]
 fn lanes_are_those_that_the_step_counts() {
     let mut random = Random::new(11);
     for _ in 0..2_000 {
         let call = random.call();
         let grid = amx::lane_grid(call);
-        if let Some(count) = grid.lines().next().and_then(|line| line.strip_prefix("done ")) {
-            let count: usize = count.split(',').next().unwrap().parse().unwrap();
-            assert_eq!(grid.matches('#').count(), count, "{}", text::print_call(call));
+        if let Some(first) = grid.lines().next().filter(|line| line.starts_with("done ")) {
+            let numbers: Vec<usize> = first.split(' ').filter_map(|word| word.parse().ok()).collect();
+            let shown = grid.matches('#').count();
+            assert_eq!(8 * numbers[0], shown * numbers.get(1).unwrap_or(&0), "{}", text::print_call(call));
         }
     }
 }

@@ -60,7 +60,7 @@ fn an_i8_is_the_low_byte_of_its_lane() {
 fn matrix_lanes_go_to_their_places() -> Test {
     let start = state(&[(X, 3, Bits16, 7), (Y, 5, Bits16, 11)]);
     let (wide, answer) = stepped(&start, Call::mac16(M1, Mac16::new().z_i32(true)));
-    assert_eq!((wide.lane(Register::Z(11), 1, Bits32), answer), (77, Answer::Done(1_024)));
+    assert_eq!((wide.lane(Register::Z(11), 1, Bits32), answer), (77, Answer::Done { bytes: 4_096 }));
     let (narrow, _) = stepped(&start, Call::mac16(M1, Mac16::new().z_row(7)?));
     assert_eq!(narrow.lane(Register::Z(11), 3, Bits16), 77);
     for state in [wide, narrow] {
@@ -72,8 +72,26 @@ fn matrix_lanes_go_to_their_places() -> Test {
 #[test]
 fn first_3_by_odd_is_48_lanes() -> Test {
     let fields = Mac16::new().x_enable_mode(2)?.x_enable_value(3)?.y_enable_value(1)?;
-    for wide in [false, true] {
-        assert_eq!(stepped(&State::new(), Call::mac16(M2, fields.z_i32(wide))).1, Answer::Done(48));
+    for (wide, bytes) in [(false, 96), (true, 192)] {
+        let call = Call::mac16(M2, fields.z_i32(wide));
+        assert_eq!(reference::lanes(call.instruction, call.generation, call.operand).len(), 48);
+        assert_eq!(stepped(&State::new(), call).1, Answer::Done { bytes });
+    }
+    Ok(())
+}
+
+#[test]
+fn a_step_reports_the_bytes_of_its_lanes() -> Test {
+    // five lanes of 8, 16 and 32 bits, in mode 4 and by products; none; and four vectors where one reports 64 bytes
+    let five = |mode, widths| Vecint::new(mode, Vectors::One)?.lane_widths(widths)?.enable_mode(2)?.enable_value(5);
+    for (mode, widths, bytes) in [(4, 9, 5), (4, 0, 10), (4, 3, 20), (0, 11, 10), (0, 0, 10), (0, 3, 20), (0, 10, 20)] {
+        assert_eq!(stepped(&State::new(), Call::vecint(M1, five(mode, widths)?)).1, Answer::Done { bytes }, "{mode} {widths}");
+    }
+    assert_eq!(stepped(&State::new(), Call::vecint(M1, five(0, 0)?.enable_mode(6)?)).1, Answer::Done { bytes: 0 });
+    for (vectors, bytes) in [(Vectors::One, 64), (Vectors::Two, 128), (Vectors::Four, 256)] {
+        for fields in [Vecint::new(0, vectors)?, Vecint::new(4, vectors)?.lane_widths(9)?] {
+            assert_eq!(stepped(&State::new(), Call::vecint(M2, fields)).1, Answer::Done { bytes });
+        }
     }
     Ok(())
 }
@@ -122,7 +140,7 @@ fn widths_12_and_13_need_both_masks() -> Test {
     // odd lanes: k = 3, 7, 11 and so on, which are the whole of the fourth row
     let ones = state(&(0..64).map(|lane| (X, lane, Bits8, 1)).collect::<Vec<_>>());
     let (after, answer) = stepped(&ones, Call::vecint(M2, masked(12, 0, 1)?));
-    assert_eq!(answer, Answer::Done(16));
+    assert_eq!(answer, Answer::Done { bytes: 4 * 16 });
     for (row, lane) in (0..64).flat_map(|row| (0..16).map(move |lane| (row, lane))) {
         assert_eq!(after.lane(Register::Z(row), lane, Bits32), u32::from(row == 3));
     }
@@ -138,7 +156,8 @@ fn widths_12_and_13_need_both_masks() -> Test {
         (12, 0, 5, 64),
         (13, 1, 9, 64),
     ] {
-        assert_eq!(stepped(&ones, Call::vecint(M2, masked(widths, mode, value)?)).1, Answer::Done(lanes), "{widths} {mode} {value}");
+        let call = Call::vecint(M2, masked(widths, mode, value)?);
+        assert_eq!(stepped(&ones, call).1, Answer::Done { bytes: 4 * lanes }, "{widths} {mode} {value}");
     }
     Ok(())
 }
@@ -171,7 +190,7 @@ fn four_vectors_go_to_four_rows() -> Test {
     let ones = state(&(0..4).flat_map(|n| [(Register::X(n), 0, Bits16, 1), (Register::Y(n), 0, Bits16, n as i64 + 1)]).collect::<Vec<_>>());
     let (state, answer) = stepped(&ones, call);
     assert_eq!([5, 21, 37, 53].map(|row| state.lane(Register::Z(row), 0, Bits16)), [1, 2, 3, 4]);
-    assert_eq!(answer, Answer::Done(128));
+    assert_eq!(answer, Answer::Done { bytes: 256 });
     Ok(())
 }
 
@@ -234,7 +253,7 @@ fn an_index_names_an_element_of_the_register() -> Test {
         let start = tables(side, Bits16, 2, &[10, 20, 30, 40, 99], &[(0, 0xe4), (1, 0x1b)], Bits16);
         let (after, answer) = stepped(&start, Call::vecint(M1, Vecint::indexed(side, IndexBits::Two, 2, Vectors::One)?));
         assert_eq!(first_lanes(&after, 1, Bits16), [10, 20, 30, 40, 40, 30, 20, 10, 10, 10]);
-        assert_eq!(answer, Answer::Done(32));
+        assert_eq!(answer, Answer::Done { bytes: 64 });
         // four bits: 10 is 0 1, and f4 is 4 15; of 8-bit lanes, the last is by the high half of byte 31
         let table: Vec<i64> = (100..116).collect();
         let start = tables(side, Bits16, 7, &table, &[(0, 0x10), (1, 0x32), (2, 0xf4)], Bits16);
@@ -243,7 +262,7 @@ fn an_index_names_an_element_of_the_register() -> Test {
         let start = tables(side, Bits8, 7, &table, &[(0, 0x10), (1, 0xf2), (31, 0xc0)], Bits8);
         let (after, answer) = stepped(&start, Call::vecint(M1, Vecint::indexed(side, IndexBits::Four, 7, Vectors::One)?.lane_widths(10)?));
         assert_eq!(first_lanes(&after, 4, Bits32), [100, 101, 102, 115, 100, 100]);
-        assert_eq!((after.lane(Register::Z(3), 15, Bits32), answer), (112, Answer::Done(64)));
+        assert_eq!((after.lane(Register::Z(3), 15, Bits32), answer), (112, Answer::Done { bytes: 256 }));
         // of two bits, by the two highest of byte 15; the elements are signed as the side is
         let start = tables(side, Bits8, 1, &[-1, -2, -3, -4], &[(0, 0x0c), (15, 0x80)], Bits8);
         let fields = Vecint::indexed(side, IndexBits::Two, 1, Vectors::One)?.lane_widths(11)?;
@@ -282,7 +301,7 @@ fn the_lanes_of_widths_12_and_13_share_the_wider_side_s_elements() -> Test {
         let start = tables(side, width, 4, &[20, 21, 22, 23], &[(0, 0x21), (1, 0x30)], ones);
         let (after, answer) =
             stepped(&start, Call::vecint(M1, Vecint::indexed(side, IndexBits::Four, 4, Vectors::One)?.lane_widths(widths)?));
-        assert_eq!((first_lanes(&after, 4, Bits32), answer), (lanes, Answer::Done(64)), "{widths} {side:?}");
+        assert_eq!((first_lanes(&after, 4, Bits32), answer), (lanes, Answer::Done { bytes: 256 }), "{widths} {side:?}");
     }
     Ok(())
 }
@@ -297,8 +316,9 @@ fn four_vectors(side: Side, indices: IndexBits, widths: u64, advance: usize, bro
     (0..4).for_each(|n| start.set_lane(register(other(side), n), 0, width(other(side)), n as i64 + 1));
     let fields = Vecint::indexed(side, indices, 5, Vectors::Four)?.lane_widths(widths)?.broadcast_mode(broadcast)?;
     let (after, answer) = stepped(&start, Call::vecint(M2, at_offset(side, fields, 480)?));
-    assert_eq!(answer, Answer::Done(if narrow(Side::X) || narrow(Side::Y) { 256 } else { 128 }));
     let z = if matches!(widths, 0 | 11) { Bits16 } else { Bits32 };
+    let lanes = if narrow(Side::X) || narrow(Side::Y) { 64 } else { 32 };
+    assert_eq!(answer, Answer::Done { bytes: 4 * lanes * z.bytes() as u64 });
     Ok([0, 16, 32, 48].map(|row| after.lane(Register::Z(row), 0, z)))
 }
 
@@ -350,7 +370,7 @@ fn zeros_and_broadcast_lanes_come_after_the_indexed_load() -> Test {
         let fields = Vecint::indexed(side, IndexBits::Four, 3, Vectors::One)?;
         let lanes = |mode, value| -> Result<[u32; 4], Box<dyn Error>> {
             let (after, answer) = stepped(&start, Call::vecint(M1, fields.enable_mode(mode)?.enable_value(value)?));
-            assert_eq!(answer, Answer::Done(32));
+            assert_eq!(answer, Answer::Done { bytes: 64 });
             Ok(first_lanes(&after, 1, Bits16))
         };
         assert_eq!(lanes(0, 0)?, [67, 68, 66, 65]);
@@ -404,7 +424,7 @@ fn the_scope_s_sample_trace() -> Test {
     for call in [Call::new(14, 1, 1 << 63), Call::new(18, 1, 1 << 54)] {
         trace.push(call.try_into()?)?;
     }
-    let text = format!("step 0 done 32\nstep 1 no-op 1\nz 0 0600{}\nsteps 2\n", "0".repeat(124));
+    let text = format!("step 0 done 64\nstep 1 no-op 1\nz 0 0600{}\nsteps 2\n", "0".repeat(124));
     assert_eq!(trace.text(), text);
     assert_eq!(reference::trace(&trace.to_bytes()), text);
     Ok(())

@@ -10,10 +10,10 @@ use borrow.Author.Tests.{eq-eqb}
 use Rattle.number.proofs.Tests.{pick-true, true-false}
 use Rattle.isa.specs.declared.Answer.{Answer}
 use Rattle.isa.specs.declared.Answer.the-variants.{Done, NoOp, Refused}
-use Rattle.isa.specs.Effect.{applied, lanesOn}
-use Rattle.isa.specs.Call.{call, effectOf}
+use Rattle.isa.specs.Effect.{Effect, applied, bytesOn}
+use Rattle.isa.specs.Call.{Call, call, effectOf}
 use Rattle.isa.specs.Answers.{Row, rowsAbove, firstOf, answerOf, isDone}
-use Rattle.isa.specs.Step.{done, stepped}
+use Rattle.isa.specs.Step.{stepped}
 use Rattle.isa.specs.Mac16.{mac16}
 use Rattle.isa.specs.Vecint.{vecint}
 use Rattle.isa.proofs.Lawful.{whole}
@@ -34,7 +34,8 @@ recounted : (rows : List Row) → NoneDone rows → (m n : ℕ) → counted (fir
 recounted [] h m n = refl
 recounted (r ∷ rows) h m n = picked (r .applies) (recounted rows (h .1) m n)
   where
-    picked : (t : Bool) → counted (firstOf rows (Done m)) n ≡ firstOf rows (Done n) → counted (cond t (r .answer) (firstOf rows (Done m))) n ≡ cond t (r .answer) (firstOf rows (Done n))
+    picked : (t : Bool) → counted (firstOf rows (Done m)) n ≡ firstOf rows (Done n)
+        → counted (cond t (r .answer) (firstOf rows (Done m))) n ≡ cond t (r .answer) (firstOf rows (Done n))
     picked true rest = h .0 n
     picked false rest = rest
 
@@ -45,43 +46,46 @@ not-counted (Refused r) n e = refl
 
 -- a is what the table gives with a count of 0; b is what is made of it
 module _ (i gen op : ℕ) (s : List ℕ) (a b : Answer) (ea : a ≡ firstOf (rowsAbove (length s) (call i gen op)) (Done 0)) (eb : a ≡ b) where
-  answer-is : answerOf (length s) (call i gen op) ≡ counted b (lanesOn (effectOf (call i gen op)))
+  abbrev c : Call
+  c = call i gen op
+
+  abbrev bytes : ℕ
+  bytes = bytesOn (effectOf c)
+
+  answer-is : answerOf (length s) c ≡ counted b bytes
   unfolding answerOf
   answer-is =
-      sym (recounted (rowsAbove (length s) (call i gen op))
-      ((λ n. refl), ((λ n. refl), ((λ n. refl), ((λ n. refl), ((λ n. refl), ((λ n. refl), ((λ n. refl), tt))))))) 0 (lanesOn (effectOf (call i gen op))))
-      ∙ ap (λ (x : Answer). counted x (lanesOn (effectOf (call i gen op)))) (sym ea ∙ eb)
+      let none : NoneDone (rowsAbove (length s) c) =
+      ((λ n. refl), ((λ n. refl), ((λ n. refl), ((λ n. refl), ((λ n. refl), ((λ n. refl), ((λ n. refl), tt)))))))
+      in
+      sym (recounted (rowsAbove (length s) c) none 0 bytes) ∙ ap (λ (x : Answer). counted x bytes) (sym ea ∙ eb)
 
-  pub step-not : isDone b ≡ false → (s ≡ stepped (call i gen op) s) × (b ≡ answerOf (length s) (call i gen op))
+  pub step-not : isDone b ≡ false → (s ≡ stepped c s) × (b ≡ answerOf (length s) c)
   step-not e =
-      let is : answerOf (length s) (call i gen op) ≡ b = answer-is ∙ not-counted b (lanesOn (effectOf (call i gen op))) e in
-      (sym (stepped-not (call i gen op) s (ap isDone is ∙ e)), sym is)
+      let is : answerOf (length s) c ≡ b = answer-is ∙ not-counted b bytes e in
+      (sym (stepped-not c s (ap isDone is ∙ e)), sym is)
 
   pub step-done : (m r : ℕ) (t : List ℕ) → b ≡ Done m
-      → t ≡ cond (eqb (length s) 5120) (applied (effectOf (call i gen op)) s) s → r ≡ cond (eqb (length s) 5120) (lanesOn (effectOf (call i gen op))) 0
-      → (t ≡ stepped (call i gen op) s) × (Done r ≡ answerOf (length s) (call i gen op))
+      → t ≡ cond (eqb (length s) 5120) (applied (effectOf c) s) s → r ≡ cond (eqb (length s) 5120) bytes 0
+      → (t ≡ stepped c s) × (Done r ≡ answerOf (length s) c)
   step-done m r t e et er =
-      let is : answerOf (length s) (call i gen op) ≡ Done (lanesOn (effectOf (call i gen op))) = answer-is ∙ ap (λ (x : Answer). counted x (lanesOn (effectOf (call i gen op)))) e in
-      let size : eqb (length s) 5120 ≡ true = eq-eqb (length s) 5120 (whole (length s) (call i gen op) (ap isDone is)) in (
-        et ∙ pick-true _ _ size ∙ sym (stepped-done (call i gen op) s (ap isDone is)),
+      let is : answerOf (length s) c ≡ Done bytes = answer-is ∙ ap (λ (x : Answer). counted x bytes) e in
+      let size : eqb (length s) 5120 ≡ true = eq-eqb (length s) 5120 (whole (length s) c (ap isDone is)) in (
+        et ∙ pick-true _ _ size ∙ sym (stepped-done c s (ap isDone is)),
         ap Done (er ∙ pick-true _ _ size) ∙ sym is,
       )
 
 -- what is done, by the instruction
 module _ (i gen op : ℕ) (s t : List ℕ) (r : ℕ) where
+  -- an effect, and the count of its bytes
+  abbrev By : Effect → Type 0
+  By e = (t ≡ cond (eqb (length s) 5120) (applied e s) s) × (r ≡ cond (eqb (length s) 5120) (bytesOn e) 0)
+
   abbrev Ran : Type 0
-  Ran =
-      (t ≡ cond (eqb (length s) 5120) (applied (effectOf (call i gen op)) s) s)
-      × (r ≡ cond (eqb (length s) 5120) (lanesOn (effectOf (call i gen op))) 0)
+  Ran = By (effectOf (call i gen op))
 
-  pub ran-mac16 : eqb i 14 ≡ true
-      → (t ≡ cond (eqb (length s) 5120) (applied (mac16 op) s) s) × (r ≡ cond (eqb (length s) 5120) (lanesOn (mac16 op)) 0) → Ran
-  ran-mac16 e h = subst (λ (b : Bool).
-      (t ≡ cond (eqb (length s) 5120) (applied (cond b (mac16 op) (vecint gen op)) s) s)
-      × (r ≡ cond (eqb (length s) 5120) (lanesOn (cond b (mac16 op) (vecint gen op))) 0)) (sym e) h
+  pub ran-mac16 : eqb i 14 ≡ true → By (mac16 op) → Ran
+  ran-mac16 e h = subst (λ (b : Bool). By (cond b (mac16 op) (vecint gen op))) (sym e) h
 
-  pub ran-vecint : eqb i 14 ≡ false
-      → (t ≡ cond (eqb (length s) 5120) (applied (vecint gen op) s) s) × (r ≡ cond (eqb (length s) 5120) (lanesOn (vecint gen op)) 0) → Ran
-  ran-vecint e h = subst (λ (b : Bool).
-      (t ≡ cond (eqb (length s) 5120) (applied (cond b (mac16 op) (vecint gen op)) s) s)
-      × (r ≡ cond (eqb (length s) 5120) (lanesOn (cond b (mac16 op) (vecint gen op))) 0)) (sym e) h
+  pub ran-vecint : eqb i 14 ≡ false → By (vecint gen op) → Ran
+  ran-vecint e h = subst (λ (b : Bool). By (cond b (mac16 op) (vecint gen op))) (sym e) h

@@ -4,17 +4,17 @@ ghost use mathlib.Core.Bool.{cond};
 ghost use lib.Dec.{eqb};
 ghost use lib.ListN.{length};
 ghost use Rattle.isa.specs.State.{stateLength};
-ghost use Rattle.isa.specs.Effect.{applied, lanesOn};
+ghost use Rattle.isa.specs.Effect.{applied, bytesOn};
 ghost use Rattle.isa.specs.Call as Calls;
 ghost use Rattle.isa.specs.Answers.{answerOf, hostNumber, normalNumber};
 ghost use Rattle.isa.specs.Step.{stepped};
 ghost use Rattle.isa.specs.Normal.{normalOf, handedBack};
 
-// What a call does where it is done, and the count of enabled lanes.
+// What a call does where it is done, and the count of bytes in enabled lanes.
 fn run(state: &mut [u8], instruction: u64, generation: u64, operand: u64) -> u64
     ensures { λ r. ⌜ (now (state .exit) ≡ cond (eqb (length (now (state .entry))) stateLength)
         (applied (Calls.effectOf (Calls.call instruction generation operand)) (now (state .entry))) (now (state .entry)))
-        × (r ≡ cond (eqb (length (now (state .entry))) stateLength) (lanesOn (Calls.effectOf (Calls.call instruction generation operand))) 0) ⌝ }
+        × (r ≡ cond (eqb (length (now (state .entry))) stateLength) (bytesOn (Calls.effectOf (Calls.call instruction generation operand))) 0) ⌝ }
 {
     if instruction == 14 {
         return mac16::step(state, operand);
@@ -29,7 +29,11 @@ pub fn step(state: &mut [u8], instruction: u64, generation: u64, operand: u64) -
 {
     let answer = call::answered(state.len(), instruction, generation, operand);
     match answer {
-        isa::Answer::Done(_) => { isa::Answer::Done(run(state, instruction, generation, operand)) }
+        isa::Answer::Done { bytes: _ } => {
+            isa::Answer::Done {
+                bytes: run(state, instruction, generation, operand),
+            }
+        }
         isa::Answer::NoOp(r) => isa::Answer::NoOp(r),
         isa::Answer::Refused(r) => isa::Answer::Refused(r),
     }

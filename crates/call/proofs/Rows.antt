@@ -13,7 +13,7 @@ use Rattle.isa.specs.declared.Refusal.the-variants as refusal
 use Rattle.isa.specs.declared.Answer.{Answer}
 use Rattle.isa.specs.declared.Answer.the-variants.{Done, NoOp, Refused}
 use Rattle.isa.specs.State.{stateLength}
-use Rattle.isa.specs.Effect.{lanesOn}
+use Rattle.isa.specs.Effect.{bytesOn}
 use Rattle.isa.specs.Vecint as Vecint
 use Rattle.isa.specs.Call.{call, effectOf}
 use Rattle.isa.specs.Answers.{Row, reservedBits, reservedMode, laterMode, notCovered, vecintRows, onlyIf, rowsAbove, firstOf, answerOf}
@@ -135,4 +135,4 @@ pub normal-by : (i gen op : ℕ) (a b : Answer) → a ≡ Given stateLength i ge
 unfolding normalOf answerOf
 normal-by i gen op a b e f =
     ap (λ (x : Answer). instead x (normalOperand (call i gen op))) (sym f ∙ e)
-    ∙ any-count (rowsAbove stateLength (call i gen op)) 0 (lanesOn (effectOf (call i gen op))) (normalOperand (call i gen op))
+    ∙ any-count (rowsAbove stateLength (call i gen op)) 0 (bytesOn (effectOf (call i gen op))) (normalOperand (call i gen op))

@@ -73,7 +73,7 @@ fn vecint_answered(generation: u64, op: u64) -> isa::Answer
     if not_covered(op) {
         return isa::Answer::Refused(isa::Refusal::NotCovered);
     }
-    isa::Answer::Done(0)
+    isa::Answer::Done { bytes: 0 }
 }
 
 // The first row of the table that applies, for a state of so many bytes; a count of 0 where the step is done.
@@ -90,7 +90,7 @@ pub fn answered(length: usize, instruction: u64, generation: u64, operand: u64) 
         return isa::Answer::Refused(isa::Refusal::Instruction);
     }
     if instruction == 14 {
-        return isa::Answer::Done(0);
+        return isa::Answer::Done { bytes: 0 };
     }
     vecint_answered(generation, operand)
 }
@@ -217,7 +217,7 @@ pub fn normal(instruction: u64, generation: u64, operand: u64) -> isa::Normal
     ensures { λ r. ⌜ r ≡ normalOf (call instruction generation operand) ⌝ }
 {
     match answered(5120, instruction, generation, operand) {
-        isa::Answer::Done(_) => isa::Normal::Operand(normal_operand(
+        isa::Answer::Done { bytes: _ } => isa::Normal::Operand(normal_operand(
             instruction,
             generation,
             operand,

@@ -1,10 +1,10 @@
--- Sums and counts, and the answer's number: the enabled lanes, counted over all of Z, and their bytes.
+-- Sums and counts, and the answer's number: the bytes in enabled lanes, counted over all of Z.
 -- Assumes nothing.
 use mathlib.Core.Path.{_≡_, refl, sym, ap, ap₂, _∙_}
 use mathlib.Core.Bool.{Bool, true, false, cond, _&&_}
 use mathlib.Core.List.{List, [], _∷_}
 use mathlib.Core.Logic.{⊎-elim}
-use Prim.Native.Nat.{ℕ, zero, suc, _+_, _*_, _<_}
+use Prim.Native.Nat.{ℕ, zero, suc, _+_, _*_, _≤_, _<_}
 use native.Mathlib.Nat.{add-zero, add-suc, suc-mul, mul-add, mul-comm, zero-mul, zero-add}
 use native.Mathlib.Omega.{arith}
 use lib.Dec.{eqb}
@@ -12,11 +12,11 @@ use lib.ListN.{length}
 use borrow.Author.Tests.{ne-eqb, eqb-true, eqb-false}
 use Rattle.isa.specs.declared.Answer.the-variants.{Done}
 use Rattle.isa.specs.State.{lanesOf, start}
-use Rattle.isa.specs.Effect.{Effect, touches, sum, count, lanesOn}
+use Rattle.isa.specs.Effect.{Effect, touches, sum, count, bytesOn, lanesOn, Fills}
 use Rattle.isa.specs.Call.{Call, effectOf}
 use Rattle.isa.specs.Answers.{Row, rowsAbove, firstOf, answerOf, isDone}
 use Rattle.isa.specs.Demands.{DoneCounted}
-use Rattle.number.proofs.Tests.{true-false, two, pick-true, pick-false, lt-or-le}
+use Rattle.number.proofs.Tests.{true-false, two, either, pick-true, pick-false, lt-or-le}
 use Rattle.isa.proofs.Place.{lanes-fill, start-row, start-lane, start-in}
 use Rattle.isa.proofs.Applied.{not-xy, touches-in}
 use Rattle.isa.proofs.Lawful.{fills}
@@ -76,6 +76,13 @@ pub count-if : (b : Bool) (f : ℕ → Bool) (n : ℕ) → count (λ l. b && f l
 count-if true f n = refl
 count-if false f n = none n
 
+pub count-most : (f : ℕ → Bool) (n : ℕ) → count f n ≤ n
+unfolding sum
+count-most f zero = omega arith
+count-most f (suc n) =
+    let one : cond (f n) 1 0 ≤ 1 = either (λ k. k ≤ 1) (f n) (omega arith) (omega arith) in
+    omega (arith, one, count-most f n)
+
 -- one row of many
 pub sum-one : (c z n : ℕ) → z < n → sum (λ r. cond (eqb r z) c 0) n ≡ c
 unfolding sum
@@ -94,47 +101,61 @@ sum-one c z (suc n) h =
 
 -- ---- the bytes of the enabled lanes
 
-module _ (e : Effect) (m : ℕ) (fit : m * e .width ≡ 64) where
-  -- 1 for a byte that is touched, and for a lane that is enabled
+module _ (e : Effect) where
+  -- 1 for a byte that is touched
   abbrev one : ℕ → ℕ
   one p = cond (touches e p) 1 0
 
-  -- of a row, from its bytes to its lanes
-  row-bytes : (row : ℕ) → row < 64 → sum (λ j. one (1024 + (row * 64 + j))) 64 ≡ e .width * count (e .on row) m
-  row-bytes row h =
-      ap (sum (λ j. one (1024 + (row * 64 + j)))) (sym fit)
-      ∙ sum-groups (λ j. one (1024 + (row * 64 + j))) m (e .width)
-      ∙ sum-cong (λ l. sum (λ k. one (1024 + (row * 64 + (l * e .width + k)))) (e .width)) (λ l. e .width * cond (e .on row l) 1 0) m lane
-      ∙ sum-scale (λ l. cond (e .on row l) 1 0) (e .width) m
-    where
-      lane : (l : ℕ) → l < m → sum (λ k. one (1024 + (row * 64 + (l * e .width + k)))) (e .width) ≡ e .width * cond (e .on row l) 1 0
-      lane l hl =
-          sum-cong (λ k. one (1024 + (row * 64 + (l * e .width + k)))) (λ k. cond (e .on row l) 1 0) (e .width) byte
-          ∙ sum-const (cond (e .on row l) 1 0) (e .width)
-        where
-          byte : (k : ℕ) → k < e .width → one (1024 + (row * 64 + (l * e .width + k))) ≡ cond (e .on row l) 1 0
-          byte k hk =
-              let p : ℕ = start (e .width) row l + k in
-              let at : 1024 + (row * 64 + (l * e .width + k)) ≡ p = omega arith in
-              ap one at
-              ∙ ap (λ (t : Bool). cond t 1 0)
-              (touches-in e p (omega arith) (start-in (e .width) m fit row l hl k hk h)
-              ∙ ap₂ (λ (x y : ℕ). e .on x y) (start-row (e .width) m fit row l hl k hk) (start-lane (e .width) m fit row l hl k hk))
-
-  touched : count (touches e) 5120 ≡ lanesOn e * e .width
-  unfolding lanesOn
-  touched =
+  -- X and Y have none
+  in-z : bytesOn e ≡ sum (λ q. one (1024 + q)) 4096
+  unfolding bytesOn
+  in-z =
       sum-add one 1024 4096
-      ∙ ap (λ (n : ℕ). n + sum (λ q. one (1024 + q)) 4096) none
+      ∙ ap (λ (n : ℕ). n + sum (λ q. one (1024 + q)) 4096) before
       ∙ zero-add (sum (λ q. one (1024 + q)) 4096)
-      ∙ sum-groups (λ q. one (1024 + q)) 64 64
-      ∙ sum-cong (λ row. sum (λ j. one (1024 + (row * 64 + j))) 64) (λ row. e .width * count (e .on row) (lanesOf (e .width))) 64
-      (λ row h. row-bytes row h ∙ ap (λ (n : ℕ). e .width * count (e .on row) n) (sym (lanes-fill (e .width) m fit)))
-      ∙ sum-scale (λ row. count (e .on row) (lanesOf (e .width))) (e .width) 64
-      ∙ mul-comm (e .width) (sum (λ row. count (e .on row) (lanesOf (e .width))) 64)
     where
-      none : sum one 1024 ≡ 0
-      none = sum-cong one (λ k. 0) 1024 (λ p h. ap (λ (t : Bool). cond t 1 0) (not-xy e p h)) ∙ sum-const 0 1024
+      before : sum one 1024 ≡ 0
+      before = sum-cong one (λ k. 0) 1024 (λ p h. ap (λ (t : Bool). cond t 1 0) (not-xy e p h)) ∙ none 1024
+
+  pub bytes-most : bytesOn e ≤ 4096
+  bytes-most = omega (arith, in-z, count-most (λ q. touches e (1024 + q)) 4096)
+
+  module _ (m : ℕ) (fit : m * e .width ≡ 64) where
+    -- of a row, from its bytes to its lanes
+    row-bytes : (row : ℕ) → row < 64 → sum (λ j. one (1024 + (row * 64 + j))) 64 ≡ e .width * count (e .on row) m
+    row-bytes row h =
+        ap (sum (λ j. one (1024 + (row * 64 + j)))) (sym fit)
+        ∙ sum-groups (λ j. one (1024 + (row * 64 + j))) m (e .width)
+        ∙ sum-cong (λ l. sum (λ k. one (1024 + (row * 64 + (l * e .width + k)))) (e .width)) (λ l. e .width * cond (e .on row l) 1 0) m lane
+        ∙ sum-scale (λ l. cond (e .on row l) 1 0) (e .width) m
+      where
+        lane : (l : ℕ) → l < m → sum (λ k. one (1024 + (row * 64 + (l * e .width + k)))) (e .width) ≡ e .width * cond (e .on row l) 1 0
+        lane l hl =
+            sum-cong (λ k. one (1024 + (row * 64 + (l * e .width + k)))) (λ k. cond (e .on row l) 1 0) (e .width) byte
+            ∙ sum-const (cond (e .on row l) 1 0) (e .width)
+          where
+            byte : (k : ℕ) → k < e .width → one (1024 + (row * 64 + (l * e .width + k))) ≡ cond (e .on row l) 1 0
+            byte k hk =
+                let p : ℕ = start (e .width) row l + k in
+                let at : 1024 + (row * 64 + (l * e .width + k)) ≡ p = omega arith in
+                ap one at
+                ∙ ap (λ (t : Bool). cond t 1 0)
+                (touches-in e p (omega arith) (start-in (e .width) m fit row l hl k hk h)
+                ∙ ap₂ (λ (x y : ℕ). e .on x y) (start-row (e .width) m fit row l hl k hk) (start-lane (e .width) m fit row l hl k hk))
+
+    pub bytes-lanes : bytesOn e ≡ lanesOn e * e .width
+    unfolding lanesOn
+    bytes-lanes =
+        in-z
+        ∙ sum-groups (λ q. one (1024 + q)) 64 64
+        ∙ sum-cong (λ row. sum (λ j. one (1024 + (row * 64 + j))) 64) (λ row. e .width * count (e .on row) (lanesOf (e .width))) 64
+        (λ row h. row-bytes row h ∙ ap (λ (n : ℕ). e .width * count (e .on row) n) (sym (lanes-fill (e .width) m fit)))
+        ∙ sum-scale (λ row. count (e .on row) (lanesOf (e .width))) (e .width) 64
+        ∙ mul-comm (e .width) (sum (λ row. count (e .on row) (lanesOf (e .width))) 64)
+
+-- lanes that are counted give the bytes
+pub bytes-of : (e : Effect) → Fills (e .width) → (n : ℕ) → n ≡ lanesOn e → n * e .width ≡ bytesOn e
+bytes-of e (m, fit) n counted = ap (λ (k : ℕ). k * e .width) counted ∙ sym (bytes-lanes e m fit)
 
 -- ---- the answer
 
@@ -151,15 +172,16 @@ last-row (r ∷ rs) m n a e =
     (λ t. absurd (true-false (sym (ap isDone (sym (pick-true (r .answer) (firstOf rs (Done m)) t) ∙ e)) ∙ a .0)))
     (λ t. last-row rs m n (a .1) (sym (pick-false (r .answer) (firstOf rs (Done m)) t) ∙ e))
 
-pub done-lanes : (c : Call) (size n : ℕ) → answerOf size c ≡ Done n → n ≡ lanesOn (effectOf c)
+done-bytes : (c : Call) (size n : ℕ) → answerOf size c ≡ Done n → n ≡ bytesOn (effectOf c)
 unfolding answerOf Above
-done-lanes c size n e =
-    last-row (rowsAbove size c) (lanesOn (effectOf c)) n (refl, (refl, (refl, (refl, (refl, (refl, (refl, tt))))))) e
+done-bytes c size n e =
+    last-row (rowsAbove size c) (bytesOn (effectOf c)) n (refl, (refl, (refl, (refl, (refl, (refl, (refl, tt))))))) e
 
 pub done-counted : DoneCounted
 done-counted c s n e =
-    let lanes : n ≡ lanesOn (effectOf c) = done-lanes c (length s) n e in
+    let bytes : n ≡ bytesOn (effectOf c) = done-bytes c (length s) n e in
     record {
-      lanes = lanes;
-      bytes = ap (λ (k : ℕ). k * effectOf c .width) lanes ∙ sym (touched (effectOf c) (fills c .0) (fills c .1));
+      bytes = bytes;
+      lanes = bytes ∙ bytes-lanes (effectOf c) (fills c .0) (fills c .1);
+      most = omega (arith, bytes, bytes-most (effectOf c));
     }

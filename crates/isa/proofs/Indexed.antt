@@ -15,7 +15,7 @@ use Rattle.isa.specs.declared.Answer.{Answer}
 use Rattle.isa.specs.declared.Answer.the-variants.{Done, Refused}
 use Rattle.isa.specs.Operand.{bits, bit}
 use Rattle.isa.specs.State.{xBase, yBase, loaded}
-use Rattle.isa.specs.Effect.{lanesOn}
+use Rattle.isa.specs.Effect.{bytesOn}
 use Rattle.isa.specs.Vecint as Vecint
 use Rattle.isa.specs.Call.{call, effectOf}
 use Rattle.isa.specs.Answers.{reservedMode, laterMode, vecintRows, firstOf, answerOf}
@@ -73,7 +73,7 @@ indexed-done gen op known e reserved shuffles = go known
     m = mode-0 op e
 
     done : Answer
-    done = Done (lanesOn (effectOf (call 18 gen op)))
+    done = Done (bytesOn (effectOf (call 18 gen op)))
 
     no-row : firstOf (vecintRows gen op) done ≡ done
     no-row =

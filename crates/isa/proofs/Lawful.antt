@@ -43,7 +43,7 @@ half = (32, refl)
 word : Fills 4
 word = (16, refl)
 
-mac16-fills : (form : Mac16.Form) → Fills (Mac16.zWidth form)
+pub mac16-fills : (form : Mac16.Form) → Fills (Mac16.zWidth form)
 mac16-fills Mac16.vector = half
 mac16-fills Mac16.matrix16 = half
 mac16-fills Mac16.matrix32 = word
@@ -60,7 +60,7 @@ reduction-fills n =
     let Z : Vecint.Reduction → Type 0 = λ w. Fills (w .z) in
     either Z (eqb n 3) word (either Z (eqb n 4) word (either Z (eqb n 9) one (either Z (eqb n 10) word (either Z (eqb n 11) half half))))
 
-vecint-fills : (op : ℕ) → Fills (Vecint.zWidth op)
+pub vecint-fills : (op : ℕ) → Fills (Vecint.zWidth op)
 unfolding Vecint.zWidth Vecint.widths
 vecint-fills op =
     either Fills (Vecint.reduces op) (reduction-fills (bits op 42 45))

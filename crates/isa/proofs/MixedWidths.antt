@@ -4,7 +4,7 @@ use mathlib.Core.Path.{_≡_, refl, sym, ap, subst, _∙_}
 use mathlib.Core.Bool.{Bool, true, false, cond, not, _&&_, _||_}
 use mathlib.Core.List.{map}
 use mathlib.Core.Logic.{inl}
-use Prim.Native.Nat.{ℕ, _+_, _*_, _/_, _%_, _^_}
+use Prim.Native.Nat.{ℕ, _+_, _*_, _/_, _%_}
 use native.Mathlib.Omega.{arith}
 use native.Mathlib.Nat.{div-one}
 use lib.Arith.{mod-mul}
@@ -20,10 +20,10 @@ use Rattle.isa.specs.Answers.{answerOf}
 use Rattle.isa.specs.Edges.{Edge}
 use Rattle.isa.specs.Guards.{Pin}
 use Rattle.isa.specs.MixedWidths.{maskedByX, EqualWidthsStay, mixed, OnlyMixedDiffer, lanePins, countPins}
-use Rattle.isa.specs.MixedWidths.{oddLanes, storedProduct, SwapAllowed, NoSwapByX}
+use Rattle.isa.specs.MixedWidths.{oddLanes, OddAnswered, storedProduct, SwapAllowed, NoSwapByX}
 use Rattle.number.proofs.Tests.{true-false, two, either, and-left, and-right, pick-true, pick-false}
 use Rattle.isa.proofs.Places.{vecint-only}
-use Rattle.isa.proofs.Guards.{InRow, apart-rows, vector-row}
+use Rattle.isa.proofs.Guards.{by-lanes, InRow, apart-rows, vector-row}
 
 -- ---- lanes
 
@@ -32,9 +32,14 @@ unfolding bits vecintEnables Vecint.mode Vecint.widthsBy Vecint.widths Vecint.ro
 lanes-pinned = refl
 
 pub counts-pinned : map (λ (p : Pin). p .gives) countPins ≡ map (λ (p : Pin). p .says) countPins
-unfolding bits sum lanesOn vecintEnables answerOf
-    Vecint.mode Vecint.widthsBy Vecint.widths Vecint.zWidth Vecint.rowsEach Vecint.stride Vecint.kOf Vecint.writes Vecint.masked Vecint.on
+unfolding bits sum vecintEnables
+    Vecint.mode Vecint.widthsBy Vecint.widths Vecint.rowsEach Vecint.stride Vecint.kOf Vecint.writes Vecint.masked Vecint.on
 counts-pinned = refl
+
+pub odd-answered : OddAnswered
+unfolding bits sum lanesOn vecintEnables
+    Vecint.mode Vecint.widthsBy Vecint.widths Vecint.zWidth Vecint.rowsEach Vecint.stride Vecint.kOf Vecint.writes Vecint.masked Vecint.on
+odd-answered = by-lanes oddLanes
 
 -- ---- nothing else moved
 

@@ -12,7 +12,7 @@ use Rattle.isa.specs.declared.Answer.the-variants.{Done, NoOp, Refused}
 use Rattle.isa.specs.declared.Normal.the-variants as normal
 use Rattle.isa.specs.Operand.{bits}
 use Rattle.isa.specs.State.{stateLength}
-use Rattle.isa.specs.Effect.{Effect, applied, lanesOn}
+use Rattle.isa.specs.Effect.{Effect, applied, bytesOn}
 use Rattle.isa.specs.Mac16 as Mac16
 use Rattle.isa.specs.Vecint as Vecint
 use Rattle.isa.specs.Call.{Call, call, isMac16, isVecint, effectOf}
@@ -96,9 +96,9 @@ answer-same n c =
       ((by-mode reservedMode, refl), ((by-mode (laterMode g), refl), ((alike notCovered (not-covered-same g op), refl), tt))),
     )
     in
-    first-same (rowsAbove n (normalised c)) (rowsAbove n c) (Done (lanesOn (effectOf (normalised c)))) (Done (lanesOn (effectOf c)))
+    first-same (rowsAbove n (normalised c)) (rowsAbove n c) (Done (bytesOn (effectOf (normalised c)))) (Done (bytesOn (effectOf c)))
     ((refl, refl), ((refl, refl), ((refl, refl), vecint-alike)))
-    (ap (λ (e : Effect). Done (lanesOn e)) (effect-same c))
+    (ap (λ (e : Effect). Done (bytesOn e)) (effect-same c))
 
 step-same : (c : Call) (s : List ℕ) → stepped (normalised c) s ≡ stepped c s
 unfolding stepped

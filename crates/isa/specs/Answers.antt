@@ -14,7 +14,7 @@ use Rattle.isa.specs.declared.Normal.{Normal}
 use Rattle.isa.specs.declared.Normal.the-variants as normal
 use Rattle.isa.specs.Operand.{bits}
 use Rattle.isa.specs.State.{stateLength}
-use Rattle.isa.specs.Effect.{lanesOn}
+use Rattle.isa.specs.Effect.{bytesOn}
 use Rattle.isa.specs.Vecint.{mode, reduces}
 use Rattle.isa.specs.Call.{Call, isMac16, isVecint, effectOf}
 
@@ -33,7 +33,7 @@ refusalNumber refusal.Generation = 2
 refusalNumber refusal.Instruction = 3
 refusalNumber refusal.NotCovered = 4
 
--- "there the answer is one number: the lane count, or 65,536 + no-op reason, or 131,072 + refusal"
+-- "there the answer is one number": what done reports ("the host number included"), "or 65,536 + no-op reason, or 131,072 + refusal"
 abbrev pub noOpNumber : Reason → ℕ
 noOpNumber r = 65536 + reasonNumber r
 
@@ -41,7 +41,7 @@ abbrev pub refusedNumber : Refusal → ℕ
 refusedNumber r = 131072 + refusalNumber r
 
 abbrev pub hostNumber : Answer → ℕ
-hostNumber (Done lanes) = lanes
+hostNumber (Done bytes) = bytes
 hostNumber (NoOp r) = noOpNumber r
 hostNumber (Refused r) = refusedNumber r
 
@@ -106,11 +106,11 @@ abbrev pub firstOf : List Row → Answer → Answer
 firstOf [] otherwise = otherwise
 firstOf (r ∷ rs) otherwise = cond (r .applies) (r .answer) (firstOf rs otherwise)
 
--- "done n: otherwise; n = Z lanes enabled"
+-- "done n: otherwise". "Done now reports Z bytes in the enabled lanes, at most 4,096, wherever it reported lanes, the host number included."
 unfoldable pub answerOf : ℕ → Call → Answer
-answerOf n c = firstOf (rowsAbove n c) (Done (lanesOn (effectOf c)))
+answerOf n c = firstOf (rowsAbove n c) (Done (bytesOn (effectOf c)))
 
 abbrev pub isDone : Answer → Bool
-isDone (Done lanes) = true
+isDone (Done bytes) = true
 isDone (NoOp r) = false
 isDone (Refused r) = false

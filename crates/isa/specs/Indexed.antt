@@ -11,7 +11,7 @@ use Rattle.number.specs.Bytes.{table}
 use Rattle.isa.specs.declared.Answer.the-variants.{Done}
 use Rattle.isa.specs.Operand.{bits, bit}
 use Rattle.isa.specs.State.{stateLength, xBase, yBase, rowBytes, loaded}
-use Rattle.isa.specs.Effect.{lanesOn}
+use Rattle.isa.specs.Effect.{bytesOn}
 use Rattle.isa.specs.Vecint as Vecint
 use Rattle.isa.specs.Call.{Call, call, isMac16, effectOf}
 use Rattle.isa.specs.Answers.{answerOf}
@@ -121,7 +121,7 @@ InRegister =
 abbrev pub IndexedDone : Type 0
 IndexedDone =
     (gen op : ℕ) → (gen ≡ 1) ⊎ (gen ≡ 2) → bit op 53 ≡ true → bits op 54 56 ≡ 0 → bits op 27 30 ≡ 0
-    → answerOf stateLength (call 18 gen op) ≡ Done (lanesOn (effectOf (call 18 gen op)))
+    → answerOf stateLength (call 18 gen op) ≡ Done (bytesOn (effectOf (call 18 gen op)))
 
 -- and it only adds, as mode 0 does
 abbrev pub IndexedAdds : Type 0

@@ -48,8 +48,8 @@ counted widths enable value = count (written (masking widths enable value)) 64
 
 abbrev pub countPins : List Pin
 countPins =
-    -- the answer of odd lanes
-    pin (answered stateLength (call 18 1 (masking 12 0 1))) 16
+    -- odd lanes
+    pin (counted 12 0 1) 16
     -- each mask has its own lane count: first and last 40, where one side has 32 lanes and the other 64
     ∷ pin (counted 12 2 40) 40
     ∷ pin (counted 13 2 40) 40
@@ -61,6 +61,14 @@ countPins =
     ∷ pin (counted 13 0 4) 64
     ∷ pin (counted 13 0 5) 64
     ∷ []
+
+-- odd lanes onto rows 0 to 3
+abbrev pub oddLanes : Call
+oddLanes = call 18 1 (masking 12 0 1)
+
+-- their bytes: 16 lanes of 4
+abbrev pub OddAnswered : Type 0
+OddAnswered = answered stateLength oddLanes ≡ 64
 
 -- ---- nothing else moved
 
@@ -83,10 +91,7 @@ OnlyMixedDiffer = (op : ℕ) → mixed op ≡ false → (k : ℕ) → Vecint.mas
 
 -- ---- a swap
 
--- odd lanes of widths 12 onto rows 0 to 3, and a product stored to row 1, which forgets what was there
-abbrev pub oddLanes : Call
-oddLanes = call 18 1 (masking 12 0 1)
-
+-- beside odd lanes of widths 12, a product stored to row 1, which forgets what was there
 abbrev pub storedProduct : Call
 storedProduct = call 14 1 (2 ^ 63 + 2 ^ 27 + 1 * 2 ^ 20)
 

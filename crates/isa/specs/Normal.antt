@@ -83,7 +83,7 @@ normalOperand c = clearedAll (ignored c) (c .operand)
 -- "Asking for it takes generation, instruction and operand, and gives the step's own refusal or no-op where the step isn't done."
 -- There is no state, so none has the wrong length.
 abbrev pub instead : Answer → ℕ → Normal
-instead (Done lanes) op = normal.Operand op
+instead (Done bytes) op = normal.Operand op
 instead (NoOp r) op = normal.NoOp r
 instead (Refused r) op = normal.Refused r
 

@@ -12,16 +12,18 @@ use lib.ListN.{length, getD}
 use borrow.Author.Tests.{eq-eqb}
 use Rattle.number.proofs.Tests.{pick-true}
 use Rattle.isa.specs.Operand.{bits, bit}
-use Rattle.isa.specs.Effect.{applied, lanesOn, count}
+use Rattle.isa.specs.Effect.{applied, bytesOn, lanesOn, count}
 use Rattle.isa.specs.Mac16 as Mac16
 use Rattle.isa.specs.Mac16.{Form, vector, matrix16, matrix32, formOf}
+use Rattle.isa.proofs.Lawful.{mac16-fills}
+use Rattle.isa.proofs.Count.{bytes-of}
 use Rattle.state.specs.Rows.{runSum}
 use Rattle.state.proofs.Holds.{Bytes}
 use Rattle.mac16.specs.Products.{rowTerms, rowOn, products, xMask, yMask, xFactors, yFactors, productsOf}
 use Rattle.mac16.proofs.Rows.{vector-row}
 use Rattle.masks.specs.Mask.{maskOf}
 use Rattle.masks.proofs.Mask.{counts-rule}
-use Rattle.mac16.proofs.Counts.{count-vector, count-matrix16, count-matrix32}
+use Rattle.mac16.proofs.Counts.{count-vector}
 use Rattle.mac16.proofs.Meant.{meant}
 
 -- matrix 16 has Z row modulo 2, and matrix 32 none of it
@@ -69,30 +71,34 @@ module _ (op : ℕ) (s t : List ℕ) (on : List Bool) (xs ys : List ℤ) (sh : �
 pub below-product : (r q : ℕ) → r ≤ 64 → q ≤ 64 → r * q ≤ 4096
 below-product r q h l = mul-le-mul h l
 
+-- the bytes of a form's lanes
+form-bytes : (form : Form) (op n : ℕ) → n ≡ lanesOn (Mac16.effect form op) → n * Mac16.zWidth form ≡ bytesOn (Mac16.effect form op)
+form-bytes form op = bytes-of (Mac16.effect form op) (mac16-fills form)
+
 -- as the code counts, by the masks
 module _ (op x r : ℕ) (ex : x ≡ maskOf (Mac16.xEnabled op) 64) where
   x-lanes : count (bit x) 32 ≡ count (Mac16.xEnabled op) 32
   x-lanes = counts-rule (Mac16.xEnabled op) 64 32 x (omega arith) ex
 
-  pub vector-count : r ≡ count (bit x) 32 → r ≡ lanesOn (Mac16.effect vector op)
-  vector-count er = er ∙ x-lanes ∙ sym (count-vector op)
+  pub vector-count : r ≡ count (bit x) 32 → r * 2 ≡ bytesOn (Mac16.effect vector op)
+  vector-count er = form-bytes vector op r (er ∙ x-lanes ∙ sym (count-vector op))
 
-  module _ (y : ℕ) (ey : y ≡ maskOf (Mac16.yEnabled op) 64) (er : r ≡ count (bit x) 32 * count (bit y) 32) where
-    both : r ≡ count (Mac16.xEnabled op) 32 * count (Mac16.yEnabled op) 32
-    both = er ∙ (λ t. x-lanes t * counts-rule (Mac16.yEnabled op) 64 32 y (omega arith) ey t)
-
-    pub matrix16-count : r ≡ lanesOn (Mac16.effect matrix16 op)
-    matrix16-count = both ∙ sym (count-matrix16 op)
-
-    pub matrix32-count : r ≡ lanesOn (Mac16.effect matrix32 op)
-    matrix32-count = both ∙ sym (count-matrix32 op)
+  -- of a matrix
+  pub matrix-count : (y : ℕ) → y ≡ maskOf (Mac16.yEnabled op) 64
+      → (form : Form) → lanesOn (Mac16.effect form op) ≡ count (Mac16.xEnabled op) 32 * count (Mac16.yEnabled op) 32
+      → r ≡ count (bit x) 32 * count (bit y) 32 * Mac16.zWidth form → r ≡ bytesOn (Mac16.effect form op)
+  matrix-count y ey form lanes er =
+      let both : count (bit x) 32 * count (bit y) 32 ≡ count (Mac16.xEnabled op) 32 * count (Mac16.yEnabled op) 32 =
+      λ t. x-lanes t * counts-rule (Mac16.yEnabled op) 64 32 y (omega arith) ey t
+      in
+      er ∙ form-bytes form op (count (bit x) 32 * count (bit y) 32) (both ∙ sym lanes)
 
 -- ---- the step, by the form
 
 module _ (op : ℕ) (s t : List ℕ) (r : ℕ) (size : length s ≡ 5120) (bytes : Bytes s) where
-  pub by-form : (form : Form) → formOf op ≡ form → (t ≡ applied (productsOf form op s) s) × (r ≡ lanesOn (Mac16.effect form op))
-      → (t ≡ cond (eqb (length s) 5120) (applied (Mac16.mac16 op) s) s) × (r ≡ cond (eqb (length s) 5120) (lanesOn (Mac16.mac16 op)) 0)
+  pub by-form : (form : Form) → formOf op ≡ form → (t ≡ applied (productsOf form op s) s) × (r ≡ bytesOn (Mac16.effect form op))
+      → (t ≡ cond (eqb (length s) 5120) (applied (Mac16.mac16 op) s) s) × (r ≡ cond (eqb (length s) 5120) (bytesOn (Mac16.mac16 op)) 0)
   by-form form e h = (
     h .0 ∙ meant op s bytes form size ∙ ap (λ (f : Form). applied (Mac16.effect f op) s) (sym e) ∙ sym (pick-true _ _ (eq-eqb (length s) 5120 size)),
-    h .1 ∙ ap (λ (f : Form). lanesOn (Mac16.effect f op)) (sym e) ∙ sym (pick-true _ _ (eq-eqb (length s) 5120 size)),
+    h .1 ∙ ap (λ (f : Form). bytesOn (Mac16.effect f op)) (sym e) ∙ sym (pick-true _ _ (eq-eqb (length s) 5120 size)),
   )

@@ -1,14 +1,14 @@
 // mac16 on a lent state.
 ghost use mathlib.Core.Path.{_≡_};
 ghost use mathlib.Core.Bool.{true, false, cond, not};
-ghost use Prim.Native.Nat.{_+_, _*_, _/_, _%_, _<_};
+ghost use Prim.Native.Nat.{_+_, _*_, _/_, _%_, _≤_, _<_};
 ghost use lib.Dec.{eqb};
 ghost use lib.IntN.{pos};
 ghost use lib.ListN.{length, getD, replicate};
 ghost use Rattle.number.specs.Bytes.{byteAt, table};
 ghost use Rattle.isa.specs.Operand.{bits, bit};
 ghost use Rattle.isa.specs.State.{stateLength};
-ghost use Rattle.isa.specs.Effect.{applied, lanesOn, count};
+ghost use Rattle.isa.specs.Effect.{applied, bytesOn, count};
 ghost use Rattle.isa.specs.Mac16 as Mac16;
 ghost use Rattle.isa.specs.Mac16.{vector, matrix16, matrix32};
 ghost use Rattle.state.specs.Rows.{runSum};
@@ -313,32 +313,33 @@ fn matrix32(
     }
 }
 
-// ---- the step, on a state of 5,120 bytes: the count of enabled lanes
+// ---- the step, on a state of 5,120 bytes: the count of bytes in enabled lanes
 
-// A matrix has a lane for each enabled X lane with each enabled Y lane.
-fn matrix_lanes(x: u64, y: u64) -> u64
-    ensures { λ r. ⌜ r ≡ count (bit x) 32 * count (bit y) 32 ⌝ }
+// A matrix has a lane, of so many bytes, for each enabled X lane with each enabled Y lane.
+fn matrix_bytes(x: u64, y: u64, width: u64) -> u64
+    requires { ⌜ width ≤ 4 ⌝ }
+    ensures { λ r. ⌜ r ≡ count (bit x) 32 * count (bit y) 32 * width ⌝ }
 {
-    masks::count_first(x, 32) * masks::count_first(y, 32)
+    masks::count_first(x, 32) * masks::count_first(y, 32) * width
 }
 
 fn vector_step(state: &mut [u8], op: u64) -> u64
     requires { ⌜ length (now state) ≡ stateLength ⌝ }
     ensures { λ r. ⌜ (now (state .exit) ≡ applied (productsOf Mac16.vector op (now (state .entry))) (now (state .entry)))
-        × (r ≡ lanesOn (Mac16.effect Mac16.vector op)) ⌝ }
+        × (r ≡ bytesOn (Mac16.effect Mac16.vector op)) ⌝ }
 {
     let x = x_mask(op);
     let on = masks::lanes32(x);
     let xs = x_factors(state, op, &on);
     let ys = y_factors(state, op);
     row16(state, z_row(op), &xs, &ys, &on, shift(op), keeps_z(op));
-    masks::count_first(x, 32)
+    masks::count_first(x, 32) * 2
 }
 
 fn matrix16_step(state: &mut [u8], op: u64) -> u64
     requires { ⌜ length (now state) ≡ stateLength ⌝ }
     ensures { λ r. ⌜ (now (state .exit) ≡ applied (productsOf Mac16.matrix16 op (now (state .entry))) (now (state .entry)))
-        × (r ≡ lanesOn (Mac16.effect Mac16.matrix16 op)) ⌝ }
+        × (r ≡ bytesOn (Mac16.effect Mac16.matrix16 op)) ⌝ }
 {
     let x = x_mask(op);
     let on = masks::lanes32(x);
@@ -356,13 +357,13 @@ fn matrix16_step(state: &mut [u8], op: u64) -> u64
         shift(op),
         keeps_z(op),
     );
-    matrix_lanes(x, y)
+    matrix_bytes(x, y, 2)
 }
 
 fn matrix32_step(state: &mut [u8], op: u64) -> u64
     requires { ⌜ length (now state) ≡ stateLength ⌝ }
     ensures { λ r. ⌜ (now (state .exit) ≡ applied (productsOf Mac16.matrix32 op (now (state .entry))) (now (state .entry)))
-        × (r ≡ lanesOn (Mac16.effect Mac16.matrix32 op)) ⌝ }
+        × (r ≡ bytesOn (Mac16.effect Mac16.matrix32 op)) ⌝ }
 {
     let x = x_mask(op);
     let on = masks::lanes32(x);
@@ -371,14 +372,14 @@ fn matrix32_step(state: &mut [u8], op: u64) -> u64
     let y = y_mask(op);
     let yon = masks::lanes32(y);
     matrix32(state, &xs, &on, &ys, &yon, shift(op), keeps_z(op));
-    matrix_lanes(x, y)
+    matrix_bytes(x, y, 4)
 }
 
-// mac16 on a state of 5,120 bytes; a state of another length stays as it is.
+// mac16 on a state of 5,120 bytes, and the count of bytes in enabled lanes; a state of another length stays as it is.
 pub fn step(state: &mut [u8], op: u64) -> u64
     ensures { λ r. ⌜ (now (state .exit) ≡ cond (eqb (length (now (state .entry))) stateLength)
         (applied (Mac16.mac16 op) (now (state .entry))) (now (state .entry)))
-        × (r ≡ cond (eqb (length (now (state .entry))) stateLength) (lanesOn (Mac16.mac16 op)) 0) ⌝ }
+        × (r ≡ cond (eqb (length (now (state .entry))) stateLength) (bytesOn (Mac16.mac16 op)) 0) ⌝ }
 {
     if state.len() != 5120 {
         return 0;

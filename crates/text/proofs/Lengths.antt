@@ -7,7 +7,8 @@ use lib.ListN.{length, length-append}
 use Rattle.isa.specs.declared.Answer.{Answer}
 use Rattle.isa.specs.declared.Answer.the-variants.{Done, NoOp, Refused}
 use Rattle.isa.specs.Answers.{reasonNumber, refusalNumber, hostNumber}
-use Rattle.text.specs.Lines.{digits, hex, space, newline, stepWord, doneWord, noOpWord, refusedWord, zWord, stepsWord, fileRefusedWord, answerText, stepLine, zLine, stepsLine, refusedLine}
+use Rattle.text.specs.Lines.{digits, hex, space, newline, stepWord, doneWord, noOpWord, refusedWord, zWord, stepsWord, fileRefusedWord}
+use Rattle.text.specs.Lines.{answerText, stepLine, zLine, stepsLine, refusedLine}
 use Rattle.text.proofs.Pieces.{length-hex}
 use Rattle.text.proofs.Decimal.{digits-short}
 
@@ -16,21 +17,33 @@ counted-short word n h = omega (arith, length-append word (digits n), digits-sho
 
 pub answer-short : (a : Answer) → hostNumber a < 2 ^ 64 → length (answerText a) ≤ 28
 unfolding answerText
-answer-short (Done lanes) h = omega (arith, counted-short doneWord lanes h)
+answer-short (Done bytes) h = omega (arith, counted-short doneWord bytes h)
 answer-short (NoOp r) h = omega (arith, counted-short noOpWord (reasonNumber r) (omega (arith, h)))
 answer-short (Refused r) h = omega (arith, counted-short refusedWord (refusalNumber r) (omega (arith, h)))
 
 pub step-short : (place : ℕ) (a : Answer) → place < 2 ^ 64 → hostNumber a < 2 ^ 64 → length (stepLine place a) ≤ 55
 unfolding stepLine
 step-short place a h k =
-    omega
-    (arith, counted-short stepWord place h, length-append (stepWord ++ digits place) space, length-append (stepWord ++ digits place ++ space) (answerText a), answer-short a k, length-append (stepWord ++ digits place ++ space ++ answerText a) newline)
+    omega (
+      arith,
+      counted-short stepWord place h,
+      length-append (stepWord ++ digits place) space,
+      length-append (stepWord ++ digits place ++ space) (answerText a),
+      answer-short a k,
+      length-append (stepWord ++ digits place ++ space ++ answerText a) newline,
+    )
 
 pub row-short : (row : ℕ) (bytes : List ℕ) → row < 2 ^ 64 → length (zLine row bytes) ≤ 2 * length bytes + 24
 unfolding zLine
 row-short row bytes h =
-    omega
-    (arith, counted-short zWord row h, length-append (zWord ++ digits row) space, length-append (zWord ++ digits row ++ space) (hex bytes), length-hex bytes, length-append (zWord ++ digits row ++ space ++ hex bytes) newline)
+    omega (
+      arith,
+      counted-short zWord row h,
+      length-append (zWord ++ digits row) space,
+      length-append (zWord ++ digits row ++ space) (hex bytes),
+      length-hex bytes,
+      length-append (zWord ++ digits row ++ space ++ hex bytes) newline,
+    )
 
 pub steps-short : (n : ℕ) → n < 2 ^ 64 → length (stepsLine n) ≤ 27
 unfolding stepsLine

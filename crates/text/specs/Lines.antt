@@ -66,13 +66,13 @@ fileRefusedWord = 102 ∷ 105 ∷ 108 ∷ 101 ∷ 32 ∷ 114 ∷ 101 ∷ 102 ∷
 
 -- ---- lines
 
--- "done 32", "no-op 1", "refused 4"
+-- "done 64", "no-op 1", "refused 4"
 unfoldable pub answerText : Answer → List ℕ
-answerText (Done lanes) = doneWord ++ digits lanes
+answerText (Done bytes) = doneWord ++ digits bytes
 answerText (NoOp r) = noOpWord ++ digits (reasonNumber r)
 answerText (Refused r) = refusedWord ++ digits (refusalNumber r)
 
--- "step 0 done 32"
+-- "step 0 done 64"
 unfoldable pub stepLine : ℕ → Answer → List ℕ
 stepLine place answer = stepWord ++ digits place ++ space ++ answerText answer ++ newline
 

@@ -8,8 +8,8 @@ use Rattle.isa.specs.declared.Answer.the-variants.{Done, NoOp, Refused}
 use Rattle.text.specs.Lines.{digits, stepLine, zLine, stepsLine, refusedLine}
 
 pub record Samples : Type 0 where
-  -- "step 0 done 32"
-  pub done : stepLine 0 (Done 32) ≡ 115 ∷ 116 ∷ 101 ∷ 112 ∷ 32 ∷ 48 ∷ 32 ∷ 100 ∷ 111 ∷ 110 ∷ 101 ∷ 32 ∷ 51 ∷ 50 ∷ 10 ∷ []
+  -- "The sample in 01 becomes `step 0 done 64`."
+  pub done : stepLine 0 (Done 64) ≡ 115 ∷ 116 ∷ 101 ∷ 112 ∷ 32 ∷ 48 ∷ 32 ∷ 100 ∷ 111 ∷ 110 ∷ 101 ∷ 32 ∷ 54 ∷ 52 ∷ 10 ∷ []
   -- "step 1 no-op 1"
   pub no-op : stepLine 1 (NoOp ReservedBits) ≡ 115 ∷ 116 ∷ 101 ∷ 112 ∷ 32 ∷ 49 ∷ 32 ∷ 110 ∷ 111 ∷ 45 ∷ 111 ∷ 112 ∷ 32 ∷ 49 ∷ 10 ∷ []
   -- "step 10 refused 4"

@@ -87,7 +87,7 @@ fn put_answer(out: &mut [u8], at: usize, answer: isa::Answer) -> usize
     ensures short { λ r. ⌜ r ≤ at + 28 ⌝ }
 {
     match answer {
-        isa::Answer::Done(lanes) => put_counted(out, at, b"done ", lanes),
+        isa::Answer::Done { bytes } => put_counted(out, at, b"done ", bytes),
         isa::Answer::NoOp(r) => put_counted(out, at, b"no-op ", isa::reason_number(r)),
         isa::Answer::Refused(r) => put_counted(out, at, b"refused ", isa::refusal_number(r)),
     }

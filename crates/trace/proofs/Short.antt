@@ -1,10 +1,8 @@
 -- How long lines and texts are at most.
 -- Assumes nothing.
 use mathlib.Core.Path.{_≡_, refl}
-use mathlib.Core.Bool.{Bool, cond}
 use mathlib.Core.List.{List, [], _∷_, _++_}
 use Prim.Native.Nat.{ℕ, zero, suc, _+_, _*_, _^_, _≤_, _<_}
-use native.Mathlib.Nat.{div-le-self}
 use native.Mathlib.Omega.{arith}
 use lib.ListN.{length, length-append}
 use Rattle.number.proofs.Tests.{either}
@@ -12,11 +10,11 @@ use Rattle.number.proofs.Bytes.{length-table}
 use Rattle.number.specs.Bytes.{byteAt}
 use Rattle.isa.specs.declared.Answer.{Answer}
 use Rattle.isa.specs.declared.Answer.the-variants.{Done}
-use Rattle.isa.specs.State.{lanesOf}
-use Rattle.isa.specs.Effect.{Effect, sum, count, lanesOn}
+use Rattle.isa.specs.Effect.{bytesOn}
 use Rattle.isa.specs.Call.{Call, effectOf}
 use Rattle.isa.specs.Answers.{Row, rowsAbove, firstOf, answerOf, hostNumber}
 use Rattle.isa.specs.Step.{stepped}
+use Rattle.isa.proofs.Count.{bytes-most}
 use Rattle.file.specs.declared.FileRefusal.the-variants.{Short, Contents, Padding}
 use Rattle.file.specs.declared.Opened.{Opened}
 use Rattle.file.specs.declared.Opened.the-variants.{Steps, Refused}
@@ -28,24 +26,6 @@ use Rattle.text.proofs.Lengths.{step-short, row-short, steps-short, file-short}
 use Rattle.trace.specs.Trace.{stepLines, rowOf, rowChanged, rowLine, rowLines, zLines, ended, textBy, textOf, roomLength, Fits}
 
 -- ---- an answer's number
-
-sum-most : (f : ℕ → ℕ) (n : ℕ) → ((k : ℕ) → f k ≤ 64) → sum f n ≤ n * 64
-unfolding sum
-sum-most f zero h = omega arith
-sum-most f (suc n) h = omega (arith, h n, sum-most f n h)
-
-count-most : (f : ℕ → Bool) (n : ℕ) → count f n ≤ n
-unfolding sum
-count-most f zero = omega arith
-count-most f (suc n) =
-    let one : cond (f n) 1 0 ≤ 1 = either (λ k. k ≤ 1) (f n) (omega arith) (omega arith) in
-    omega (arith, one, count-most f n)
-
-lanes-most : (e : Effect) → lanesOn e ≤ 4096
-unfolding lanesOn
-lanes-most e =
-    sum-most (λ row. count (e .on row) (lanesOf (e .width))) 64
-    (λ row. omega (arith, count-most (e .on row) (lanesOf (e .width)), div-le-self 64 (e .width)))
 
 -- the number of each row's answer
 AllSmall : List Row → Type 0
@@ -60,9 +40,9 @@ first-small (r ∷ rs) d (h, t) l = either (λ (a : Answer). hostNumber a < 2 ^ 
 answer-number : (n : ℕ) (c : Call) → hostNumber (answerOf n c) < 2 ^ 64
 unfolding answerOf AllSmall
 answer-number n c =
-    first-small (rowsAbove n c) (Done (lanesOn (effectOf c)))
+    first-small (rowsAbove n c) (Done (bytesOn (effectOf c)))
     (omega arith, (omega arith, (omega arith, (omega arith, (omega arith, (omega arith, (omega arith, tt)))))))
-    (omega (arith, lanes-most (effectOf c)))
+    (omega (arith, bytes-most (effectOf c)))
 
 -- ---- lines
 

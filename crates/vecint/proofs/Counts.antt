@@ -1,4 +1,4 @@
--- The enabled lanes, counted by the mask.
+-- The enabled lanes and their bytes, counted by the mask.
 -- Assumes nothing.
 use mathlib.Core.Path.{_≡_, sym, ap, ap₂, _∙_, subst}
 use mathlib.Core.Bool.{Bool, cond, _&&_, _||_}
@@ -12,10 +12,11 @@ use borrow.Author.Tests.{lt-ltb, le-ltb}
 use Rattle.number.proofs.Tests.{pick-true, pick-false, lt-or-le}
 use Rattle.isa.specs.Operand.{bit}
 use Rattle.isa.specs.State.{lanesOf}
-use Rattle.isa.specs.Effect.{sum, count, lanesOn}
+use Rattle.isa.specs.Effect.{sum, count, bytesOn, lanesOn}
 use Rattle.isa.specs.Vecint as Vecint
 use Rattle.isa.specs.Vecint.{several, masked, zRow, zWidth}
-use Rattle.isa.proofs.Count.{sum-cong, sum-const, sum-groups, sum-if, sum-one, sum-swap, count-if}
+use Rattle.isa.proofs.Count.{sum-cong, sum-const, sum-groups, sum-if, sum-one, sum-swap, count-if, bytes-of}
+use Rattle.isa.proofs.Lawful.{vecint-fills}
 use Rattle.isa.proofs.Place.{factor-pos}
 use Rattle.isa.proofs.Places.{Stride, stride, each}
 use Rattle.isa.proofs.NormalVecint.{rows-each}
@@ -96,14 +97,16 @@ count-vecint gen op =
     (λ k. several gen op || masked op k) (zRow op) (lanesOf (zWidth op))
 
 -- as the code counts them, by the mask
-pub counted : (gen op vectors lanes n mask : ℕ) → vectors ≡ 64 / Vecint.stride gen op → lanes ≡ vectorLanes op → lanes ≤ 64
-    → mask ≡ maskOf (λ k. several gen op || masked op k) 64 → n ≡ count (bit mask) (cond (ltb lanes 64) lanes 64)
-    → vectors * n ≡ lanesOn (Vecint.vecint gen op)
-counted gen op vectors lanes n mask ev el few em en =
-    ap₂ _*_ ev
+pub counted : (gen op vectors lanes n mask width : ℕ) → vectors ≡ 64 / Vecint.stride gen op → lanes ≡ vectorLanes op → lanes ≤ 64
+    → mask ≡ maskOf (λ k. several gen op || masked op k) 64 → n ≡ count (bit mask) (cond (ltb lanes 64) lanes 64) → width ≡ zWidth op
+    → vectors * n * width ≡ bytesOn (Vecint.vecint gen op)
+counted gen op vectors lanes n mask width ev el few em en ew =
+    ap (λ (b : ℕ). vectors * n * b) ew
+    ∙ bytes-of (Vecint.vecint gen op) (vecint-fills op) (vectors * n)
+    (ap₂ _*_ ev
     (en ∙ ap (count (bit mask)) at-most
     ∙ counts-rule (λ k. several gen op || masked op k) 64 (vectorLanes op) mask (omega (arith, el)) em)
-    ∙ sym (count-vecint gen op)
+    ∙ sym (count-vecint gen op))
   where
     at-most : cond (ltb lanes 64) lanes 64 ≡ vectorLanes op
     at-most =

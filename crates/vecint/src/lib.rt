@@ -8,7 +8,7 @@ ghost use lib.ListN.{length, getD};
 ghost use Rattle.number.specs.Bytes.{span};
 ghost use Rattle.number.specs.Integers.{signed, wrap, kept};
 ghost use Rattle.isa.specs.State.{stateLength};
-ghost use Rattle.isa.specs.Effect.{applied, lanesOn};
+ghost use Rattle.isa.specs.Effect.{applied, bytesOn};
 ghost use Rattle.isa.specs.Vecint as Vecint;
 ghost use Rattle.masks.specs.Mask.{maskOf};
 ghost use Rattle.state.specs.Rows.{dealt};
@@ -397,19 +397,21 @@ fn each_vector(state: &mut [u8], generation: u64, op: u64, on: &[bool; 64])
     }
 }
 
-fn lanes_enabled(generation: u64, op: u64, mask: u64) -> u64
+// Each vector enables the same lanes, of the same width.
+fn bytes_enabled(generation: u64, op: u64, mask: u64) -> u64
     requires { ⌜ mask ≡ maskOf (λ k. Vecint.several generation op || Vecint.masked op k) 64 ⌝ }
-    ensures { λ r. ⌜ r ≡ lanesOn (Vecint.vecint generation op) ⌝ }
+    ensures { λ r. ⌜ r ≡ bytesOn (Vecint.vecint generation op) ⌝ }
 {
     let n = masks::count_first(mask, operand::vector_lanes(op));
-    operand::vectors(generation, op) as u64 * n
+    let width = operand::z_width(op) as u64;
+    operand::vectors(generation, op) as u64 * n * width
 }
 
-// vecint on a state of 5,120 bytes, and the count of enabled lanes; a state of another length stays as it is.
+// vecint on a state of 5,120 bytes, and the count of bytes in enabled lanes; a state of another length stays as it is.
 pub fn step(state: &mut [u8], generation: u64, op: u64) -> u64
     ensures { λ r. ⌜ (now (state .exit) ≡ cond (eqb (length (now (state .entry))) stateLength)
         (applied (Vecint.vecint generation op) (now (state .entry))) (now (state .entry)))
-        × (r ≡ cond (eqb (length (now (state .entry))) stateLength) (lanesOn (Vecint.vecint generation op)) 0) ⌝ }
+        × (r ≡ cond (eqb (length (now (state .entry))) stateLength) (bytesOn (Vecint.vecint generation op)) 0) ⌝ }
 {
     if state.len() != 5120 {
         return 0;
@@ -417,5 +419,5 @@ pub fn step(state: &mut [u8], generation: u64, op: u64) -> u64
     let mask = masks::vecint_mask(generation, op);
     let on = masks::lanes64(mask);
     each_vector(state, generation, op, &on);
-    lanes_enabled(generation, op, mask)
+    bytes_enabled(generation, op, mask)
 }

@@ -66,7 +66,7 @@ fn main() -> Result<(), FieldError> {
     form("vecint, mode 5", &start, vecint(5, 0, Vectors::One)?, 4_000);
     let mixed: Vec<Call> = (0..4_000).map(|_| random.known_call()).collect();
     measure("both, 4,000 random calls", &start, &mixed);
-    let works = |&call: &Call| matches!(step(&mut State::new(), call), Answer::Done(1..));
+    let works = |&call: &Call| matches!(step(&mut State::new(), call), Answer::Done { bytes: 1.. });
     let records: Vec<Call> = std::iter::repeat_with(|| random.known_call()).filter(works).take(2_048).collect();
     measure("a whole trace, 2,048 done steps", &start, &records);
     let indexed = Vecint::indexed(Side::X, IndexBits::Four, 3, Vectors::One)?.shift(3)?.x_signed(true)?.y_signed(true)?;

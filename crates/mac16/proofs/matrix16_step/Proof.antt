@@ -3,7 +3,8 @@ use Prim.Native.Nat.{_%_}
 use native.Mathlib.Omega.{arith}
 use Rattle.isa.specs.Mac16 as Mac16
 use Rattle.masks.proofs.Lanes.{lanes-of-rule}
-use Rattle.mac16.proofs.Whole.{matrix16-is, matrix16-count}
+use Rattle.mac16.proofs.Counts.{count-matrix16}
+use Rattle.mac16.proofs.Whole.{matrix16-is, matrix-count}
 use borrow.Author.Needs.{needs}
 use Rattle.mac16.proofs.matrix16_step.Statement.{statement}
 use Rattle.mac16.proofs.matrix16_step.Tie as tie
@@ -38,8 +39,8 @@ keeps-z-requires c κs = search needs
 matrix16-requires : tie.Need-matrix16-requires
 matrix16-requires c κs = search needs
 
-matrix-lanes-requires : tie.Need-matrix-lanes-requires
-matrix-lanes-requires c κs = search needs
+matrix-bytes-requires : tie.Need-matrix-bytes-requires
+matrix-bytes-requires c κs = search needs
 
 same-length : tie.Need-same-length
 same-length c = search needs
@@ -63,8 +64,8 @@ returns c =
           (shift .shift .result) (keep .keeps-z .result) enabled (xs .x-factors .ensures) (ys .y-factors .ensures)
           (shift .shift .ensures .0) (shift .shift .ensures .1) (keep .keeps-z .ensures) (yon .lanes322 .result) enabled-y
           (z .z-row .result % 2) (z .z-row .result) (z .z-row .ensures .0) refl (rows .matrix16 .ensures),
-      matrix16-count (a .op) (x .x-mask .result) (c .matrix-lanes .result) (x .x-mask .ensures)
-          (y .y-mask .result) (y .y-mask .ensures) (c .matrix-lanes .ensures),
+      matrix-count (a .op) (x .x-mask .result) (c .matrix-bytes .result) (x .x-mask .ensures)
+          (y .y-mask .result) (y .y-mask .ensures) Mac16.matrix16 (count-matrix16 (a .op)) (c .matrix-bytes .ensures),
     )
 
 pub matrix16-step-spec : {M : Type 1} → statement M
@@ -81,6 +82,6 @@ matrix16-step-spec =
     shift-requires
     keeps-z-requires
     matrix16-requires
-    matrix-lanes-requires
+    matrix-bytes-requires
     same-length
     returns)

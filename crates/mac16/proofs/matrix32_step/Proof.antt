@@ -3,7 +3,8 @@ use native.Mathlib.Omega.{arith}
 use Rattle.isa.specs.Mac16 as Mac16
 use Rattle.masks.proofs.Lanes.{lanes-of-rule}
 use Rattle.mac16.specs.Products.{masked}
-use Rattle.mac16.proofs.Whole.{matrix32-is, matrix32-count}
+use Rattle.mac16.proofs.Counts.{count-matrix32}
+use Rattle.mac16.proofs.Whole.{matrix32-is, matrix-count}
 use borrow.Author.Needs.{needs}
 use Rattle.mac16.proofs.matrix32_step.Statement.{statement}
 use Rattle.mac16.proofs.matrix32_step.Tie as tie
@@ -35,8 +36,8 @@ keeps-z-requires c κs = search needs
 matrix32-requires : tie.Need-matrix32-requires
 matrix32-requires c κs = search needs
 
-matrix-lanes-requires : tie.Need-matrix-lanes-requires
-matrix-lanes-requires c κs = search needs
+matrix-bytes-requires : tie.Need-matrix-bytes-requires
+matrix-bytes-requires c κs = search needs
 
 same-length : tie.Need-same-length
 same-length c = search needs
@@ -59,8 +60,8 @@ returns c =
           (ys .y-factors .result) (shift .shift .result) (keep .keeps-z .result) enabled (ap (masked (on .lanes32 .result)) (xs .x-side .ensures))
           (ys .y-factors .ensures) (shift .shift .ensures .0) (shift .shift .ensures .1) (keep .keeps-z .ensures)
           (yon .lanes322 .result) enabled-y (rows .matrix32 .ensures),
-      matrix32-count (a .op) (x .x-mask .result) (c .matrix-lanes .result) (x .x-mask .ensures)
-          (y .y-mask .result) (y .y-mask .ensures) (c .matrix-lanes .ensures),
+      matrix-count (a .op) (x .x-mask .result) (c .matrix-bytes .result) (x .x-mask .ensures)
+          (y .y-mask .result) (y .y-mask .ensures) Mac16.matrix32 (count-matrix32 (a .op)) (c .matrix-bytes .ensures),
     )
 
 pub matrix32-step-spec : {M : Type 1} → statement M
@@ -76,6 +77,6 @@ matrix32-step-spec =
     shift-requires
     keeps-z-requires
     matrix32-requires
-    matrix-lanes-requires
+    matrix-bytes-requires
     same-length
     returns)

@@ -33,6 +33,9 @@ row16-requires c κs = search needs
 count-first-requires : tie.Need-count-first-requires
 count-first-requires c κs = search needs
 
+mul-result : tie.Need-mul-result
+mul-result c = search needs
+
 same-length : tie.Need-same-length
 same-length c = search needs
 
@@ -69,5 +72,6 @@ vector-step-spec =
     keeps-z-requires
     row16-requires
     count-first-requires
+    mul-result
     same-length
     returns)

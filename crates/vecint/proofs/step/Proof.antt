@@ -32,8 +32,8 @@ each-vector-requires c κs =
           (mask .vecint-mask .ensures) (on .lanes64 .ensures),
     )
 
-lanes-enabled-requires : tie.Need-lanes-enabled-requires
-lanes-enabled-requires c κs = search needs
+bytes-enabled-requires : tie.Need-bytes-enabled-requires
+bytes-enabled-requires c κs = search needs
 
 same-length : tie.Need-same-length
 same-length c = search needs
@@ -44,7 +44,7 @@ returns-2 c =
     let sized = vectors .before .before .before .before .before in
     let right = eq-eqb (length (sized .before .before .args .state .now)) 5120 (sized .if1 .left) in (
       vectors .each-vector .ensures ∙ sym (pick-true _ _ right),
-      c .lanes-enabled .ensures ∙ sym (pick-true _ _ right),
+      c .bytes-enabled .ensures ∙ sym (pick-true _ _ right),
     )
 
 pub step-spec : {M : Type 1} → statement M
@@ -55,6 +55,6 @@ step-spec =
     vecint-mask-requires
     lanes64-requires
     each-vector-requires
-    lanes-enabled-requires
+    bytes-enabled-requires
     same-length
     returns-2)

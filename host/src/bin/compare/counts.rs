@@ -1,4 +1,4 @@
-//! The lanes that a step counts, for every enable mode, value and lane width.
+//! The bytes that a step counts, for every enable mode, value and lane width.
 use crate::case::Step;
 use crate::steps::{on_both, pairs};
 use amx::{Call, reference, text::print_call};
@@ -16,15 +16,24 @@ fn vecint() -> Vec<u64> {
     forms.flat_map(|form| (0..512).map(move |enable| form | enable << 32)).collect()
 }
 
-/// Compares the lanes that a step counts with the reference's walk over them, in every case. The number of cases.
+/// The positions of Z that lie in lanes that the reference has enabled, one by one.
+fn walked(call: Call) -> u64 {
+    let mut enabled = [false; 5_120];
+    for lane in reference::lanes(call.instruction, call.generation, call.operand) {
+        enabled[lane.start()..][..lane.bytes].fill(true);
+    }
+    enabled[1_024..].iter().filter(|&&on| on).count() as u64
+}
+
+/// Compares the bytes that a step counts with a walk over Z, in every case. The number of cases.
 pub fn every(step: Step) -> Result<usize, String> {
     let calls: Vec<Call> = on_both(14, mac16()).into_iter().chain(on_both(18, vecint())).collect();
     let mut state = vec![0; 5_120];
     for &call in &calls {
         let counted = step(&mut state, call);
-        let walked = reference::lanes(call.instruction, call.generation, call.operand).len() as u64;
+        let walked = walked(call);
         if counted != walked {
-            return Err(format!("{} counts {counted} lanes, and there are {walked}", print_call(call)));
+            return Err(format!("{} counts {counted} bytes, and {walked} lie in enabled lanes", print_call(call)));
         }
     }
     Ok(calls.len())
@@ -37,13 +46,13 @@ mod tests {
 
     #[test]
     fn one_wrong_count_is_found() {
-        // one lane short where widths 13, lanes of 16 and 8 bits, have the last 7 of each side
+        // one byte short where widths 13, lanes of 16 and 8 bits, have the last 7 of each side
         fn short(state: &mut [u8], call: Call) -> u64 {
             let wrong = call.instruction == 18 && call.operand == 13 << 42 | 3 << 38 | 7 << 32;
             second(state, call) - u64::from(wrong)
         }
         let report = every(short).unwrap_err();
-        assert!(report.contains("widths=13") && report.contains("counts 6 lanes, and there are 7"), "{report}");
+        assert!(report.contains("widths=13") && report.contains("counts 27 bytes, and 28 lie in enabled lanes"), "{report}");
         assert_eq!(every(second), Ok(2 * (3 * 128 * 128 + 3 * 16 * 3 * 512)));
     }
 }

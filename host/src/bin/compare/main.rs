@@ -48,7 +48,7 @@ fn compare(options: &Options) -> Result<(), String> {
     // a seed of its own for each part, so that one does not depend on the others' lengths
     let random = |part| Random::new(seed.wrapping_mul(16) + part);
     let counts = counts::every(case::proved)?;
-    println!("{counts} steps, every enable mode, value and lane width: as many lanes counted as a walk over them finds");
+    println!("{counts} steps, every enable mode, value and lane width: as many bytes counted as a walk over Z finds in enabled lanes");
     let mut tally = steps::Tally::default();
     let swept = steps::swept(&mut random(0), &mut tally)?;
     println!("{swept} swept steps: same bytes, same answers ({})", tally.text());

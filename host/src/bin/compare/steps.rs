@@ -12,8 +12,8 @@ pub struct Tally(BTreeMap<String, u64>);
 impl Tally {
     fn count(&mut self, number: u64) {
         let name = match Answer::from_number(number) {
-            Some(Answer::Done(0)) => "done 0".to_owned(),
-            Some(Answer::Done(_)) => "done".to_owned(),
+            Some(Answer::Done { bytes: 0 }) => "done 0".to_owned(),
+            Some(Answer::Done { .. }) => "done".to_owned(),
             Some(other) => other.to_string(),
             None => "no answer".to_owned(),
         };
