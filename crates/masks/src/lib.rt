@@ -13,7 +13,8 @@ ghost use Rattle.isa.specs.Vecint as Vecint;
 ghost use Rattle.operand.specs.Lanes.{lanesBy};
 ghost use Rattle.masks.specs.Mask.{maskOf, laneUsed, placesOf, maskAt, enablesAll};
 
-const ALL: u64 = 0xffff_ffff_ffff_ffff;
+// Every place.
+pub const ALL: u64 = 0xffff_ffff_ffff_ffff;
 
 // ---- what both instructions have
 

@@ -3,13 +3,13 @@
 use mathlib.Core.Path.{_≡_, sym, ap, ap₂, _∙_, subst}
 use mathlib.Core.Bool.{Bool, cond, _&&_, _||_}
 use mathlib.Core.Logic.{⊎-elim}
-use Prim.Native.Nat.{ℕ, _+_, _*_, _/_, _%_, _≤_, _<_}
-use native.Mathlib.Nat.{mod-lt, div-lt-iff-lt-mul, mul-div-cancel, mul-assoc, mul-comm, add-mul}
+use Prim.Native.Nat.{ℕ, _+_, _-_, _*_, _/_, _%_, _^_, _≤_, _<_}
+use native.Mathlib.Nat.{mod-lt, div-le-self, div-lt-iff-lt-mul, mul-div-cancel, mul-assoc, mul-comm, add-mul}
 use native.Mathlib.Omega.{arith}
 use lib.Arith.{digits-lt, digits-div, digits-mod}
 use lib.Dec.{ltb, eqb}
 use borrow.Author.Tests.{lt-ltb, le-ltb}
-use Rattle.number.proofs.Tests.{pick-true, pick-false, lt-or-le}
+use Rattle.number.proofs.Tests.{two, pick-true, pick-false, lt-or-le}
 use Rattle.isa.specs.Operand.{bit}
 use Rattle.isa.specs.State.{lanesOf}
 use Rattle.isa.specs.Effect.{sum, count, bytesOn, lanesOn}
@@ -17,11 +17,13 @@ use Rattle.isa.specs.Vecint as Vecint
 use Rattle.isa.specs.Vecint.{several, masked, zRow, zWidth}
 use Rattle.isa.proofs.Count.{sum-cong, sum-const, sum-groups, sum-if, sum-one, sum-swap, count-if, bytes-of}
 use Rattle.isa.proofs.Lawful.{vecint-fills}
-use Rattle.isa.proofs.Place.{factor-pos}
+use Rattle.isa.proofs.Place.{factor-pos, lanes-fill}
 use Rattle.isa.proofs.Places.{Stride, stride, each}
 use Rattle.isa.proofs.NormalVecint.{rows-each}
 use Rattle.masks.specs.Mask.{maskOf}
-use Rattle.masks.proofs.Mask.{counts-rule}
+use Rattle.masks.proofs.Mask.{counts-rule, counted-all}
+use Rattle.operand.proofs.Widths.{lanes-dealt}
+use Rattle.operand.proofs.Lanes.{lanes-reducing}
 use Rattle.vecint.specs.Vectors.{vectorLanes}
 
 -- w strides make 64 rows, and m groups of r rows a stride; a lane is enabled where its row is in group g and f holds of its k
@@ -96,20 +98,43 @@ count-vecint gen op =
     strides (Vecint.stride gen op) (Vecint.rowsEach op) (stride gen op) (each (Vecint.rowsEach op) (rows-each op))
     (λ k. several gen op || masked op k) (zRow op) (lanesOf (zWidth op))
 
--- as the code counts them, by the mask
-pub counted : (gen op vectors lanes n mask width : ℕ) → vectors ≡ 64 / Vecint.stride gen op → lanes ≡ vectorLanes op → lanes ≤ 64
-    → mask ≡ maskOf (λ k. several gen op || masked op k) 64 → n ≡ count (bit mask) (cond (ltb lanes 64) lanes 64) → width ≡ zWidth op
-    → vectors * n * width ≡ bytesOn (Vecint.vecint gen op)
-counted gen op vectors lanes n mask width ev el few em en ew =
-    ap (λ (b : ℕ). vectors * n * b) ew
-    ∙ bytes-of (Vecint.vecint gen op) (vecint-fills op) (vectors * n)
-    (ap₂ _*_ ev
-    (en ∙ ap (count (bit mask)) at-most
-    ∙ counts-rule (λ k. several gen op || masked op k) 64 (vectorLanes op) mask (omega (arith, el)) em)
-    ∙ sym (count-vecint gen op))
+-- ---- as the code counts them, by the mask
+
+few-lanes : (op : ℕ) → vectorLanes op ≤ 64
+few-lanes op =
+    two (Vecint.reduces op) (vectorLanes op ≤ 64)
+    (λ t. omega (arith, lanes-reducing op t, div-le-self 64 (zWidth op)))
+    (λ f. omega (arith, lanes-dealt op f, div-le-self 64 (Vecint.narrower (Vecint.widths op))))
+
+-- a vector's bytes: all lanes are whole rows
+pub all-bytes : (op mask rows : ℕ) → mask ≡ 2 ^ 64 - 1 → rows ≡ Vecint.rowsEach op → 64 * rows ≡ count (bit mask) (vectorLanes op) * zWidth op
+all-bytes op mask rows em er =
+    let r : ℕ = Vecint.rowsEach op in
+    let z : ℕ = zWidth op in
+    let row : 64 ≡ lanesOf z * z = sym (vecint-fills op .1) ∙ ap (λ (m : ℕ). m * z) (sym (lanes-fill z (vecint-fills op .0) (vecint-fills op .1))) in
+    mul-comm 64 rows
+    ∙ ap₂ _*_ er row
+    ∙ sym (mul-assoc r (lanesOf z) z)
+    ∙ ap (λ (n : ℕ). n * z) (counted-all mask (vectorLanes op) (few-lanes op) em)
+
+-- and by a count of some
+pub some-bytes : (op mask lanes n width : ℕ) → lanes ≡ vectorLanes op → n ≡ count (bit mask) (cond (ltb lanes 64) lanes 64) → width ≡ zWidth op
+    → n * width ≡ count (bit mask) (vectorLanes op) * zWidth op
+some-bytes op mask lanes n width el en ew = ap₂ _*_ (en ∙ ap (count (bit mask)) at-most) ew
   where
     at-most : cond (ltb lanes 64) lanes 64 ≡ vectorLanes op
     at-most =
         ⊎-elim (λ less. pick-true _ _ (lt-ltb lanes 64 less) ∙ el)
-        (λ more. pick-false _ _ (le-ltb lanes 64 more) ∙ omega (arith, el))
+        (λ more. pick-false _ _ (le-ltb lanes 64 more) ∙ omega (arith, el, few-lanes op))
         (lt-or-le lanes 64)
+
+-- of all vectors
+pub counted : (gen op vectors bytes mask : ℕ) → vectors ≡ 64 / Vecint.stride gen op → mask ≡ maskOf (λ k. several gen op || masked op k) 64
+    → bytes ≡ count (bit mask) (vectorLanes op) * zWidth op → vectors * bytes ≡ bytesOn (Vecint.vecint gen op)
+counted gen op vectors bytes mask ev em eb =
+    let rule : ℕ → Bool = λ k. several gen op || masked op k in
+    let n : ℕ = count rule (vectorLanes op) in
+    let lanes : vectors * n ≡ lanesOn (Vecint.vecint gen op) = ap (λ (v : ℕ). v * n) ev ∙ sym (count-vecint gen op) in
+    ap (λ (b : ℕ). vectors * b) (eb ∙ ap (λ (m : ℕ). m * zWidth op) (counts-rule rule 64 (vectorLanes op) mask (few-lanes op) em))
+    ∙ sym (mul-assoc vectors n (zWidth op))
+    ∙ bytes-of (Vecint.vecint gen op) (vecint-fills op) (vectors * n) lanes

@@ -8,13 +8,14 @@ ghost use lib.ListN.{length, getD};
 ghost use Rattle.number.specs.Bytes.{span};
 ghost use Rattle.number.specs.Integers.{signed, wrap, kept};
 ghost use Rattle.isa.specs.State.{stateLength};
-ghost use Rattle.isa.specs.Effect.{applied, bytesOn};
+ghost use Rattle.isa.specs.Operand.{bit};
+ghost use Rattle.isa.specs.Effect.{applied, count, bytesOn};
 ghost use Rattle.isa.specs.Vecint as Vecint;
 ghost use Rattle.masks.specs.Mask.{maskOf};
 ghost use Rattle.state.specs.Rows.{dealt};
 ghost use Rattle.vecint.specs.Accumulation.{zBytes, zLanes, summed, clampedSum, accumulated, laneStored, accumulate, rowOf};
 ghost use Rattle.vecint.specs.Modes.{sumsIn, yAlone, negatesIn, aluBy};
-ghost use Rattle.vecint.specs.Vectors.{xSideOf, ySideOf, fixedY, laneY, HoldsTerms, vecintMask, vectorEffect, reduceBy};
+ghost use Rattle.vecint.specs.Vectors.{vectorLanes, xSideOf, ySideOf, fixedY, laneY, HoldsTerms, vecintMask, vectorEffect, reduceBy};
 
 // ---- lanes of all modes but 4
 
@@ -397,14 +398,22 @@ fn each_vector(state: &mut [u8], generation: u64, op: u64, on: &[bool; 64])
     }
 }
 
-// Each vector enables the same lanes, of the same width.
+// Of a vector. All of its lanes are whole rows, and need no count.
+fn vector_bytes(op: u64, mask: u64) -> u64
+    ensures { λ r. ⌜ (r ≡ count (bit mask) (vectorLanes op) * Vecint.zWidth op) × (r ≤ 256) ⌝ }
+{
+    if mask == masks::ALL {
+        return 64 * operand::rows_each(op) as u64;
+    }
+    masks::count_first(mask, operand::vector_lanes(op)) * operand::z_width(op) as u64
+}
+
+// Each vector enables the same lanes.
 fn bytes_enabled(generation: u64, op: u64, mask: u64) -> u64
     requires { ⌜ mask ≡ maskOf (λ k. Vecint.several generation op || Vecint.masked op k) 64 ⌝ }
     ensures { λ r. ⌜ r ≡ bytesOn (Vecint.vecint generation op) ⌝ }
 {
-    let n = masks::count_first(mask, operand::vector_lanes(op));
-    let width = operand::z_width(op) as u64;
-    operand::vectors(generation, op) as u64 * n * width
+    operand::vectors(generation, op) as u64 * vector_bytes(op, mask)
 }
 
 // vecint on a state of 5,120 bytes, and the count of bytes in enabled lanes; a state of another length stays as it is.
