@@ -3,13 +3,13 @@
 use mathlib.Core.Path.{_≡_, sym, ap, ap₂, _∙_, subst}
 use mathlib.Core.Bool.{Bool, cond, _&&_, _||_}
 use mathlib.Core.Logic.{⊎-elim}
-use Prim.Native.Nat.{ℕ, _+_, _-_, _*_, _/_, _%_, _^_, _≤_, _<_}
-use native.Mathlib.Nat.{mod-lt, div-le-self, div-lt-iff-lt-mul, mul-div-cancel, mul-assoc, mul-comm, add-mul}
+use Prim.Native.Nat.{ℕ, _+_, _-_, _*_, _/_, _%_, _^_, _<_}
+use native.Mathlib.Nat.{mod-lt, div-lt-iff-lt-mul, mul-div-cancel, mul-assoc, mul-comm, add-mul}
 use native.Mathlib.Omega.{arith}
 use lib.Arith.{digits-lt, digits-div, digits-mod}
 use lib.Dec.{ltb, eqb}
 use borrow.Author.Tests.{lt-ltb, le-ltb}
-use Rattle.number.proofs.Tests.{two, pick-true, pick-false, lt-or-le}
+use Rattle.number.proofs.Tests.{pick-true, pick-false, lt-or-le}
 use Rattle.isa.specs.Operand.{bit}
 use Rattle.isa.specs.State.{lanesOf}
 use Rattle.isa.specs.Effect.{sum, count, bytesOn, lanesOn}
@@ -22,9 +22,8 @@ use Rattle.isa.proofs.Places.{Stride, stride, each}
 use Rattle.isa.proofs.NormalVecint.{rows-each}
 use Rattle.masks.specs.Mask.{maskOf}
 use Rattle.masks.proofs.Mask.{counts-rule, counted-all}
-use Rattle.operand.proofs.Widths.{lanes-dealt}
-use Rattle.operand.proofs.Lanes.{lanes-reducing}
 use Rattle.vecint.specs.Vectors.{vectorLanes}
+use Rattle.vecint.proofs.Bounds.{few-lanes}
 
 -- w strides make 64 rows, and m groups of r rows a stride; a lane is enabled where its row is in group g and f holds of its k
 module _ (w m r : ℕ) (hr : 0 < r) (all : w * (m * r) ≡ 64) (f : ℕ → Bool) (g : ℕ) (hg : g < m) (n : ℕ) where
@@ -99,12 +98,6 @@ count-vecint gen op =
     (λ k. several gen op || masked op k) (zRow op) (lanesOf (zWidth op))
 
 -- ---- as the code counts them, by the mask
-
-few-lanes : (op : ℕ) → vectorLanes op ≤ 64
-few-lanes op =
-    two (Vecint.reduces op) (vectorLanes op ≤ 64)
-    (λ t. omega (arith, lanes-reducing op t, div-le-self 64 (zWidth op)))
-    (λ f. omega (arith, lanes-dealt op f, div-le-self 64 (Vecint.narrower (Vecint.widths op))))
 
 -- a vector's bytes: all lanes are whole rows
 pub all-bytes : (op mask rows : ℕ) → mask ≡ 2 ^ 64 - 1 → rows ≡ Vecint.rowsEach op → 64 * rows ≡ count (bit mask) (vectorLanes op) * zWidth op

@@ -19,7 +19,7 @@ use Rattle.number.proofs.Tests.{pick-true, true-false}
 use Rattle.isa.specs.State.{lanesOf}
 use Rattle.isa.specs.Effect.{applied}
 use Rattle.isa.specs.Vecint as Vecint
-use Rattle.operand.proofs.Widths.{z-width-two-or-four, z-width-not-reducing, lanes-dealt, narrower-cases, stride-cases}
+use Rattle.operand.proofs.Widths.{z-width-two-or-four, z-width-not-reducing, stride-cases}
 use Rattle.operand.proofs.Rows.{by-spacing, rows-in-z, first-row-of}
 use Rattle.state.specs.Rows.{dealt}
 use Rattle.state.proofs.Holds.{Bytes}
@@ -28,7 +28,7 @@ use Rattle.vecint.specs.declared.Alu.{Alu}
 use Rattle.vecint.specs.Accumulation.{zBytes, zLanes, accumulated, accumulate}
 use Rattle.vecint.specs.Modes.{aluOf, cleared, aluBy, termBy, outcome}
 use Rattle.vecint.specs.Vectors.{firstRow, vectorLanes, vectorEffect, HoldsTerms}
-use Rattle.vecint.proofs.Bounds.{fits}
+use Rattle.vecint.proofs.Bounds.{fits, few-lanes}
 use Rattle.vecint.proofs.KeptTerms.{kept-is}
 use Rattle.vecint.proofs.Ranges.{outcome-is, x-small, y-small, term-small, term-whole}
 use Rattle.vecint.proofs.Results.{result-is}
@@ -82,13 +82,6 @@ module _ (gen op v : ℕ) (s : List ℕ) (size : length s ≡ 5120) (small : Byt
       mul-comm (zLanes (eqb (Vecint.zWidth op) 4)) (Vecint.rowsEach op)
       ∙ ap (λ (m : ℕ). Vecint.rowsEach op * m) (row-lanes (eqb (Vecint.zWidth op) 4) ∙ ap lanesOf width)
 
-  pub few-lanes : vectorLanes op ≤ 64
-  few-lanes = subst (λ (n : ℕ). n ≤ 64) (sym (lanes-dealt op not)) (few (narrower-cases op))
-    where
-      few : {n : ℕ} → (n ≡ 1) ⊎ (n ≡ 2) → lanesOf n ≤ 64
-      few (inl e) = subst (λ (n : ℕ). lanesOf n ≤ 64) (sym e) (omega arith)
-      few (inr e) = subst (λ (n : ℕ). lanesOf n ≤ 64) (sym e) (omega arith)
-
   -- what lane k receives
   lane-meant : (ts : List ℤ) → HoldsTerms gen op s v (aluBy gen op) ts → (k : ℕ) → k < vectorLanes op → (z : ℕ) → z < span (zBytes (eqb (Vecint.zWidth op) 4))
       → accumulate (eqb (Vecint.zWidth op) 4) (aluBy gen op) ts k z ≡ wrap (span (zBytes (eqb (Vecint.zWidth op) 4))) (Vecint.result gen op (take 1024 s) v k z)
@@ -134,14 +127,19 @@ module _ (gen op v : ℕ) (s : List ℕ) (size : length s ≡ 5120) (small : Byt
   vector-meant t w base c on how ts ew eb ec eo eh held et =
       et
       ∙ (λ i. applied (dealt (zBytes (ew i)) (eb i) (ec i) (λ k. getD (eo i) k false) (accumulate (ew i) (eh i) ts)) s)
-      ∙ dealt-same (zBytes (eqb (Vecint.zWidth op) 4)) (zLanes (eqb (Vecint.zWidth op) 4)) (fits (eqb (Vecint.zWidth op) 4)) (firstRow gen op v) (Vecint.rowsEach op) s size small
+      ∙ dealt-same (zBytes wide) (zLanes wide) (fits wide) (firstRow gen op v) (Vecint.rowsEach op) s size small
       (λ k. getD (table mask 0 64) k false) mask
-      (accumulate (eqb (Vecint.zWidth op) 4) (aluBy gen op) ts)
-      (λ k z. wrap (span (zBytes (eqb (Vecint.zWidth op) 4))) (Vecint.result gen op (take 1024 s) v k z))
+      (accumulate wide (aluBy gen op) ts)
+      (λ k z. wrap (span (zBytes wide)) (Vecint.result gen op (take 1024 s) v k z))
       (λ k h. getD-table mask false 0 64 k (in-list k h) ∙ ap mask (zero-add k))
       (λ k h z hz. lane-meant ts (subst (λ (a : Alu). HoldsTerms gen op s v a ts) eh held) k (of-vector k h) z hz)
-      ∙ (λ i. applied (dealt (width i) (firstRow gen op v) (Vecint.rowsEach op) mask (λ k z. wrap (span (width i)) (Vecint.result gen op (take 1024 s) v k z))) s)
+      ∙ (λ i.
+      let new : ℕ → ℕ → ℕ = λ k z. wrap (span (width i)) (Vecint.result gen op (take 1024 s) v k z) in
+      applied (dealt (width i) (firstRow gen op v) (Vecint.rowsEach op) mask new) s)
     where
+      wide : Bool
+      wide = eqb (Vecint.zWidth op) 4
+
       mask : ℕ → Bool
       mask k = Vecint.several gen op || Vecint.masked op k
 
@@ -149,11 +147,12 @@ module _ (gen op v : ℕ) (s : List ℕ) (size : length s ≡ 5120) (small : Byt
       of-vector k = subst (λ (n : ℕ). k < n) all-lanes
 
       in-list : (k : ℕ) → k < zLanes (eqb (Vecint.zWidth op) 4) * Vecint.rowsEach op → k < 64
-      in-list k h = omega (arith, of-vector k h, few-lanes)
+      in-list k h = omega (arith, of-vector k h, few-lanes op)
 
-  pub rows-fit : (base c : ℕ) (w : Bool) → v < 64 / Vecint.stride gen op → base ≡ v % 4 * Vecint.stride gen op + Vecint.zRow op % Vecint.stride gen op / Vecint.rowsEach op * Vecint.rowsEach op
+  pub rows-fit : (base c : ℕ) (w : Bool) → v < 64 / Vecint.stride gen op
+      → base ≡ v % 4 * Vecint.stride gen op + Vecint.zRow op % Vecint.stride gen op / Vecint.rowsEach op * Vecint.rowsEach op
       → c ≡ Vecint.rowsEach op → w ≡ eqb (Vecint.zWidth op) 4 → (base + c ≤ 64) × (zLanes w * c ≤ 64)
   rows-fit base c w hv eb ec ew = (
     omega (arith, rows-in-z gen op v hv, eb, ec, first-row-of gen op v hv),
-    subst (λ (n : ℕ). n ≤ 64) (sym ((λ i. zLanes (ew i) * ec i) ∙ all-lanes)) few-lanes,
+    subst (λ (n : ℕ). n ≤ 64) (sym ((λ i. zLanes (ew i) * ec i) ∙ all-lanes)) (few-lanes op),
   )
