@@ -398,7 +398,7 @@ fn each_vector(state: &mut [u8], generation: u64, op: u64, on: &[bool; 64])
     }
 }
 
-// Of a vector. All of its lanes are whole rows, and need no count.
+// The bytes of a vector's enabled lanes. Where all are enabled they are whole rows, and need no count.
 fn vector_bytes(op: u64, mask: u64) -> u64
     ensures { λ r. ⌜ (r ≡ count (bit mask) (vectorLanes op) * Vecint.zWidth op) × (r ≤ 256) ⌝ }
 {
