@@ -84,8 +84,5 @@ module _ (i gen op : ℕ) (s t : List ℕ) (r : ℕ) where
   abbrev Ran : Type 0
   Ran = By (effectOf (call i gen op))
 
-  pub ran-mac16 : eqb i 14 ≡ true → By (mac16 op) → Ran
-  ran-mac16 e h = subst (λ (b : Bool). By (cond b (mac16 op) (vecint gen op))) (sym e) h
-
-  pub ran-vecint : eqb i 14 ≡ false → By (vecint gen op) → Ran
-  ran-vecint e h = subst (λ (b : Bool). By (cond b (mac16 op) (vecint gen op))) (sym e) h
+  pub ran : (b : Bool) → eqb i 14 ≡ b → By (cond b (mac16 op) (vecint gen op)) → Ran
+  ran b e = subst (λ (t : Bool). By (cond t (mac16 op) (vecint gen op))) (sym e)

@@ -62,7 +62,7 @@ countPins =
     ∷ pin (counted 13 0 5) 64
     ∷ []
 
--- odd lanes onto rows 0 to 3
+-- odd lanes of widths 12, dealt to rows 0 to 3
 abbrev pub oddLanes : Call
 oddLanes = call 18 1 (masking 12 0 1)
 
@@ -91,7 +91,7 @@ OnlyMixedDiffer = (op : ℕ) → mixed op ≡ false → (k : ℕ) → Vecint.mas
 
 -- ---- a swap
 
--- beside odd lanes of widths 12, a product stored to row 1, which forgets what was there
+-- beside them, a product stored to row 1, which forgets what was there
 abbrev pub storedProduct : Call
 storedProduct = call 14 1 (2 ^ 63 + 2 ^ 27 + 1 * 2 ^ 20)
 
