@@ -5,41 +5,48 @@ use borrow.Author.Needs.{needs}
 use Rattle.amx.proofs.step.Statement.{statement}
 use Rattle.amx.proofs.step.Tie as tie
 
--- src/lib.rt:30:9
 answered-requires : tie.Need-answered-requires
 answered-requires c κs = search needs
 
--- src/lib.rt:32:57
 enum-told : tie.Need-enum-told
 enum-told c = search needs
 
--- src/lib.rt:32:53
 run-requires : tie.Need-run-requires
 run-requires c κs = search needs
 
--- src/lib.rt:33:27
 enum-known-answer : tie.Need-enum-known-answer
 enum-known-answer c = search needs
 
--- src/lib.rt:34:30
 enum-known-answer-2 : tie.Need-enum-known-answer-2
 enum-known-answer-2 c = search needs
 
--- src/lib.rt:26:1
 same-length : tie.Need-same-length
 same-length c = search needs
 
--- src/lib.rt:26:1
 returns : tie.Need-returns
-returns c = step-done (c .before .before .before .before .before .before .before .before .args .instruction) (c .before .before .before .before .before .before .before .before .args .generation) (c .before .before .before .before .before .before .before .before .args .operand) (c .before .before .before .before .before .before .before .before .args .state .now) (c .before .before .before .before .before .before .answered .result) (answer.Done (c .before .before .before .before .enum-told .given .0 .0)) (c .before .before .before .before .before .before .answered .ensures) (c .before .before .before .before .enum-told .given .1) (c .before .before .before .before .enum-told .given .0 .0) (c .before .before .run .result) (c .before .before .run .last .0) refl (c .before .before .run .ensures .0) (c .before .before .run .ensures .1)
+returns c =
+    let done = c .before .before in
+    let told = done .before .before .enum-told .given in
+    let table = done .before .before .before .before in
+    let a = table .before .before .args in
+    step-done (a .instruction) (a .generation) (a .operand) (a .state .now) (table .answered .result) (answer.Done (told .0 .0))
+    (table .answered .ensures) (told .1) (told .0 .0) (done .run .result) (done .run .last .0) refl (done .run .ensures .0) (done .run .ensures .1)
 
--- src/lib.rt:26:1
 returns-2 : tie.Need-returns-2
-returns-2 c = step-not (c .before .before .before .before .before .args .instruction) (c .before .before .before .before .before .args .generation) (c .before .before .before .before .before .args .operand) (c .before .before .before .before .before .args .state .now) (c .before .before .before .answered .result) (answer.NoOp (c .before .answer .given .0 .0)) (c .before .before .before .answered .ensures) (c .before .answer .given .1) refl
+returns-2 c =
+    let told = c .before .answer .given in
+    let table = c .before .before .before in
+    let a = table .before .before .args in
+    step-not (a .instruction) (a .generation) (a .operand) (a .state .now) (table .answered .result) (answer.NoOp (told .0 .0))
+    (table .answered .ensures) (told .1) refl
 
--- src/lib.rt:26:1
 returns-3 : tie.Need-returns-3
-returns-3 c = step-not (c .before .before .before .before .before .args .instruction) (c .before .before .before .before .before .args .generation) (c .before .before .before .before .before .args .operand) (c .before .before .before .before .before .args .state .now) (c .before .before .before .answered .result) (answer.Refused (c .before .answer2 .given .0 .0)) (c .before .before .before .answered .ensures) (c .before .answer2 .given .1) refl
+returns-3 c =
+    let told = c .before .answer2 .given in
+    let table = c .before .before .before in
+    let a = table .before .before .args in
+    step-not (a .instruction) (a .generation) (a .operand) (a .state .now) (table .answered .result) (answer.Refused (told .0 .0))
+    (table .answered .ensures) (told .1) refl
 
 pub step-spec : {M : Type 1} → statement M
 step-spec =
