@@ -64,11 +64,17 @@ impl Case {
         End { state: run.state, answers }
     }
 
-    /// The smallest case found that still fails: calls dropped, serials made the due ones, operand bits cleared one by one, parts of the
-    /// state set to 0.
+    /// The smallest case found that still fails: calls done beforehand or dropped, serials made the due ones, operand bits cleared one by one,
+    /// parts of the state set to 0.
     pub fn shrink(mut self, fails: &dyn Fn(&Case) -> bool) -> Case {
         loop {
             let before = (self.state.clone(), self.sent.clone());
+            // a count is reached by the calls that raise it, so dropping them alone may lose it
+            for first in (1..self.sent.len()).rev() {
+                if self.try_change(fails, |case| case.begin_later(first)) {
+                    break;
+                }
+            }
             for at in (0..self.sent.len()).rev() {
                 self.try_change(fails, |case| {
                     case.sent.remove(at);
@@ -89,6 +95,15 @@ impl Case {
                 return self;
             }
         }
+    }
+
+    /// Begins with the state that the first calls leave, by the reference.
+    fn begin_later(&mut self, first: usize) {
+        let mut run = self.start();
+        self.sent.drain(..first).for_each(|sent| {
+            run.send(second, sent);
+        });
+        self.state = run.state;
     }
 
     fn try_change(&mut self, fails: &dyn Fn(&Case) -> bool, change: impl FnOnce(&mut Case)) -> bool {

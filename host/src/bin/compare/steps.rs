@@ -96,7 +96,7 @@ fn each(random: &mut Random, calls: impl Iterator<Item = Call>, tally: &mut Tall
 /// with operands that the rows after them tell apart. The number of steps.
 pub fn table(step: Step, random: &mut Random, tally: &mut Tally) -> Result<u64, String> {
     const LENGTHS: [usize; 5] = [0, REGISTER_BYTES, STATE_LENGTH - 1, STATE_LENGTH, STATE_LENGTH + 1];
-    const COUNTS: [u64; 7] = [0, 1, 1 << 32, u64::MAX - 3, u64::MAX - 2, u64::MAX - 1, u64::MAX];
+    const COUNTS: [u64; 8] = [0, 1, 255, (1 << 32) - 1, u64::MAX - 3, u64::MAX - 2, u64::MAX - 1, u64::MAX];
     const SERIALS: [Serial; 6] =
         [Serial::Due, Serial::Past(1), Serial::Past(u64::MAX), Serial::Past(1 << 32), Serial::Given(0), Serial::Given(u64::MAX)];
     // of vecint: done, done with no lane, no-op 1, 2 and 3, refused 4, and no-ops that would be refused 4 next
@@ -313,10 +313,15 @@ fn normal_fault(case: &Case) -> Option<String> {
     }
     let normalised = Case { state: case.state.clone(), sent: vec![Sent { call: again, serial }] };
     let (plain, normal) = (case.run(proved), normalised.run(proved));
+    if plain != normal {
+        let found = difference(["as given", "normal"], [&plain, &normal]);
+        return Some(format!("the normal operand {operand:#x} does something else:\n{found}"));
+    }
+    // a call that has a normal operand is done where its serial is due
+    let answer = plain.answers[0];
     let due = count_of(&case.state).is_some_and(|count| count != u64::MAX && serial.number(&case.state, &[]) == count);
-    let same = plain == normal && (plain.answers[0] < 65_536) == due;
-    (!same)
-        .then(|| format!("the normal operand {operand:#x} does something else:\n{}", difference(["as given", "normal"], [&plain, &normal])))
+    let words = if due { "due" } else { "not due" };
+    (due != (answer < 65_536)).then(|| format!("a call that has a normal operand, with a serial that is {words}, is answered {answer}"))
 }
 
 #[cfg(test)]
