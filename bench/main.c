@@ -13,7 +13,8 @@ step unit_baseline, unit_native;
 
 struct call { uint64_t length, instruction, generation, operand; };
 
-enum { LENGTH = AMX_STATE_LENGTH, ROOM = LENGTH + 64, VERSIONS = 3, RUNS = 61, RANDOM_STEPS = 1000000, MIXED = 4000, OFFSETS = 7 };
+// room for a state and more, in whole cache lines: the rows of all versions lie alike in theirs
+enum { LENGTH = AMX_STATE_LENGTH, ROOM = (LENGTH + 63) / 64 * 64, VERSIONS = 3, RUNS = 61, RANDOM_STEPS = 1000000, MIXED = 4000, OFFSETS = 7 };
 enum { MAC16 = 14, VECINT = 18, NO_OP = 65536, REFUSED = 131072 };
 static step *const version[VERSIONS] = {amx_step, unit_baseline, unit_native};
 static uint8_t state[VERSIONS][ROOM];

@@ -40,14 +40,18 @@ fn median(mut times: Vec<f64>) -> f64 {
     times[times.len() / 2]
 }
 
+/// A state at the start of a cache line, so that the rows of both programs lie alike in theirs.
+#[repr(align(64))]
+struct Aligned(State);
+
 /// Times both programs on a list, each run from the same bytes, and checks that both end in the same.
 fn measure(name: &str, start: &State, calls: &[Call]) {
     let mut times = [Vec::new(), Vec::new()];
     for _ in 0..RUNS {
-        let (mut a, mut b) = (start.clone(), start.clone());
-        times[0].push(seconds(&mut a, calls, proved));
-        times[1].push(seconds(&mut b, calls, second));
-        assert!(a == b, "{name}: the two programs end in different states");
+        let (mut a, mut b) = (Aligned(start.clone()), Aligned(start.clone()));
+        times[0].push(seconds(&mut a.0, calls, proved));
+        times[1].push(seconds(&mut b.0, calls, second));
+        assert!(a.0 == b.0, "{name}: the two programs end in different states");
     }
     let [proved, second] = times.map(median);
     let each = 1e9 / calls.len() as f64;
