@@ -22,8 +22,9 @@ extern "C" {
 // 131,072 + the number of a refusal. Done and no-op raise the count by one; a no-op changes nothing else, and a refusal changes no byte.
 //
 // `serial` is the count before the step, by which the caller names it: any other is refused 8, and where the count is 2^64 - 1 every serial is
-// refused 9. So a call that may not have arrived can be sent again with the same serial, and adds once: if it was done, it is now refused 8
-// (or 9) and changes no byte. The first of these that applies is answered: refused 1, 2, 3, 9, 8, no-op 1, 2, 3, refused 4, done.
+// refused 9. So a call that may not have arrived can be sent again with the same serial, and adds once: if it was done, and only steps have
+// written the state since, it is now refused 8 (or 9) and changes no byte. The first of these that applies is answered: refused 1, 2, 3, 9, 8,
+// no-op 1, 2, 3, refused 4, done.
 uint64_t amx_step(uint8_t *state, uint64_t length, uint64_t instruction, uint64_t generation, uint64_t operand, uint64_t serial);
 
 // 0 where the step would be done with the serial due, or the step's own number of a no-op or a refusal: never refused 1, 8 or 9.
