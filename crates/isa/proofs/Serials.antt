@@ -1,6 +1,6 @@
 -- A retry, and the last counts.
 -- Assumes nothing.
-use mathlib.Core.Path.{_≡_, refl, sym, ap, ap₂, _∙_}
+use mathlib.Core.Path.{_≡_, refl, sym, ap, _∙_}
 use mathlib.Core.Bool.{Bool, true, false}
 use mathlib.Core.List.{List, [], _∷_}
 use Prim.Native.Nat.{ℕ, _+_, _<_}
@@ -15,12 +15,12 @@ use Rattle.isa.specs.declared.Refusal.the-variants as refusal
 use Rattle.isa.specs.Operand.{bits}
 use Rattle.isa.specs.State.{countOf, lastCount, stateOf}
 use Rattle.isa.specs.Effect.{sum, bytesOn, lanesOn}
-use Rattle.isa.specs.Enable.{mac16Enables, vecintEnables}
+use Rattle.isa.specs.Enable.{mac16Enables}
 use Rattle.isa.specs.Mac16 as Mac16
 use Rattle.isa.specs.Vecint as Vecint
 use Rattle.isa.specs.Call.{Call, effectOf}
 use Rattle.isa.specs.Answers.{answerOf, ownAnswer, isDone}
-use Rattle.isa.specs.Step.{stepped, answerDue, stepDue, answers, run}
+use Rattle.isa.specs.Step.{stepped, answerDue, stepDue, answers}
 use Rattle.isa.specs.Swap.{swapAt}
 use Rattle.isa.specs.Serials as Serials
 use Rattle.number.proofs.Tests.{true-false}

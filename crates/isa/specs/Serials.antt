@@ -6,7 +6,7 @@ use Prim.Native.Nat.{ℕ, _^_}
 use lib.ListN.{length}
 use Rattle.isa.specs.declared.Answer.the-variants.{Done, Refused}
 use Rattle.isa.specs.declared.Refusal.the-variants as refusal
-use Rattle.isa.specs.State.{registerBytes, registersOf, countOf, lastCount, stateOf}
+use Rattle.isa.specs.State.{registerBytes, countOf, lastCount, stateOf}
 use Rattle.isa.specs.Call.{Call, call}
 use Rattle.isa.specs.Answers.{answerOf}
 use Rattle.isa.specs.Step.{stepped, answers, run}

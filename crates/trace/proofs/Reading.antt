@@ -6,7 +6,6 @@ use mathlib.Core.List.{List}
 use Prim.Native.Nat.{ℕ, _+_, _≤_, _<_}
 use native.Mathlib.Omega.{arith}
 use borrow.Author.Tests.{lt-ltb}
-use lib.ListN.{length}
 use Rattle.number.proofs.Tests.{pick-true, true-false}
 use Rattle.isa.specs.declared.Answer.{Answer}
 use Rattle.isa.specs.State.{countOf}

@@ -5,7 +5,7 @@ use mathlib.Core.Bool.{Bool, true, false, not}
 use mathlib.Core.List.{List, []}
 use mathlib.Core.Logic.{⊎-elim}
 use Prim.Native.Nat.{ℕ, _+_, _*_, _≤_, _<_}
-use native.Mathlib.Nat.{add-zero, zero-add}
+use native.Mathlib.Nat.{add-zero}
 use native.Mathlib.Numerals.{add-one}
 use native.Mathlib.Omega.{arith}
 use borrow.Author.Tests.{eq-eqb, ne-eqb}
@@ -13,7 +13,7 @@ use lib.Dec.{eqb}
 use lib.ListN.{length}
 use Rattle.number.specs.Bytes.{byteAt, table}
 use Rattle.number.proofs.Tests.{pick-true, pick-false, is-false, true-false, lt-or-le}
-use Rattle.number.proofs.Bytes.{length-table, getD-table, table-same}
+use Rattle.number.proofs.Bytes.{length-table, table-same}
 use Rattle.file.specs.File.{all, startOf}
 use Rattle.file.proofs.Paddings.{all-at, all-true}
 use Rattle.file.proofs.Records.{start-byte}
