@@ -30,7 +30,7 @@ use Rattle.isa.proofs.Count.{bytes-lanes}
 use Rattle.isa.proofs.Step.{known, told, own-due, refused-leaves, stepped-length, taken-raised}
 use Rattle.isa.proofs.Guards.{adding}
 
--- both sums write row 0 by themselves: 32 lanes of 2 bytes
+-- 32 lanes of 2 bytes
 sum-bytes : bytesOn (effectOf Serials.sum) ≡ 64
 unfolding bits sum lanesOn mac16Enables Mac16.on
 sum-bytes = bytes-lanes (effectOf Serials.sum) (fills Serials.sum .0) (fills Serials.sum .1)
@@ -38,10 +38,6 @@ sum-bytes = bytes-lanes (effectOf Serials.sum) (fills Serials.sum .0) (fills Ser
 own-sum : ownAnswer Serials.sum ≡ Done 64
 unfolding ownAnswer
 own-sum = ap Done sum-bytes
-
-other-done : isDone (ownAnswer Serials.otherSum) ≡ true
-unfolding bits ownAnswer Vecint.mode
-other-done = refl
 
 module _ (r : List ℕ) (size : length r ≡ 5120) (n : ℕ) (room : n < lastCount) where
   abbrev s : List ℕ
@@ -94,20 +90,20 @@ pub count-needed : Serials.CountNeeded
 unfolding bits ownAnswer Vecint.mode Vecint.widthsBy Vecint.widths Vecint.zWidth Vecint.overrides
 count-needed r size =
     let s : List ℕ = Serials.nearlyLast r in
-    let room : 0xffff_ffff_ffff_fffe < lastCount = lit< tt in
-    let due : countOf s ≡ 0xffff_ffff_ffff_fffe = counted r size 0xffff_ffff_ffff_fffe room in
+    let room : Serials.lastButOne < lastCount = lit< tt in
+    let due : countOf s ≡ Serials.lastButOne = counted r size Serials.lastButOne room in
     let next : List ℕ = stepDue Serials.sum s in
-    let length-next : length next ≡ 5128 = after-length r size 0xffff_ffff_ffff_fffe room in
-    let count-next : countOf next ≡ lastCount = after-count r size 0xffff_ffff_ffff_fffe room in
+    let length-next : length next ≡ 5128 = after-length r size Serials.lastButOne room in
+    let count-next : countOf next ≡ lastCount = after-count r size Serials.lastButOne room in
     let second : answerDue next Serials.otherSum ≡ Refused refusal.LastCount = at-last Serials.otherSum next length-next count-next in
     let both : answers (Serials.sum ∷ Serials.otherSum ∷ []) s ≡ Done 64 ∷ Refused refusal.LastCount ∷ [] =
-    λ i. sum-done r size 0xffff_ffff_ffff_fffe room i ∷ second i ∷ []
+    λ i. sum-done r size Serials.lastButOne room i ∷ second i ∷ []
     in record {
-      both-add = adding s Serials.sum Serials.otherSum (length-state r 0xffff_ffff_ffff_fffe size) (omega (arith, due)) refl refl refl;
+      both-add = adding s Serials.sum Serials.otherSum (length-state r Serials.lastButOne size) (omega (arith, due)) refl refl refl;
       answered = both;
       last = ap countOf (refused-leaves Serials.otherSum (countOf next) next refusal.LastCount second) ∙ count-next;
       differ = λ e.
           first-differs (answerDue s Serials.otherSum) (Refused refusal.LastCount) _ (Done 64 ∷ [])
-          (ap isDone (own r size 0xffff_ffff_ffff_fffe room Serials.otherSum)) refl
+          (ap isDone (own r size Serials.lastButOne room Serials.otherSum)) refl
           (e ∙ ap (swapAt 0) both);
     }

@@ -29,10 +29,13 @@ abbrev pub RetryRefused : Type 0
 RetryRefused = (registers : List ℕ) → length registers ≡ registerBytes → Retry registers
 
 -- with a count of 2^64 - 2 one more step is done; the count is then at its last, and every further one is refused 9
-abbrev pub nearlyLast : List ℕ → List ℕ
-nearlyLast registers = stateOf registers 0xffff_ffff_ffff_fffe
+abbrev pub lastButOne : ℕ
+lastButOne = 0xffff_ffff_ffff_fffe
 
--- two steps that both only add do not swap there
+abbrev pub nearlyLast : List ℕ → List ℕ
+nearlyLast registers = stateOf registers lastButOne
+
+-- two steps that both only add do not swap there: their answers differ
 pub record TwoSums (registers : List ℕ) : Type 0 where
   pub both-add : BothAdd (nearlyLast registers) sum otherSum
   pub answered : answers (sum ∷ otherSum ∷ []) (nearlyLast registers) ≡ Done 64 ∷ Refused refusal.LastCount ∷ []
