@@ -8,12 +8,13 @@
 #include <time.h>
 #include "../include/amx.h"
 
-typedef uint64_t step(uint8_t *state, uint64_t length, uint64_t instruction, uint64_t generation, uint64_t operand);
+typedef uint64_t step(uint8_t *state, uint64_t length, uint64_t instruction, uint64_t generation, uint64_t operand, uint64_t serial);
 step unit_baseline, unit_native;
 
 struct call { uint64_t length, instruction, generation, operand; };
 
-enum { LENGTH = 5120, ROOM = LENGTH + 64, VERSIONS = 3, RUNS = 61, RANDOM_STEPS = 1000000, MIXED = 4000, OFFSETS = 7 };
+// room for a state and more, in whole cache lines: the rows of all versions lie alike in theirs
+enum { LENGTH = AMX_STATE_LENGTH, ROOM = (LENGTH + 63) / 64 * 64, VERSIONS = 3, RUNS = 61, RANDOM_STEPS = 1000000, MIXED = 4000, OFFSETS = 7 };
 enum { MAC16 = 14, VECINT = 18, NO_OP = 65536, REFUSED = 131072 };
 static step *const version[VERSIONS] = {amx_step, unit_baseline, unit_native};
 static uint8_t state[VERSIONS][ROOM];
@@ -39,6 +40,10 @@ static void fill(int ends) {
     }
 }
 
+static void set_count(uint64_t count) {
+    for (int v = 0; v < VERSIONS; v++) memcpy(state[v] + AMX_COUNT_AT, &count, sizeof count);
+}
+
 static int indexed(struct call c) { return c.instruction == VECINT && c.operand >> 53 & 1; }
 
 // an operand that vecint mostly does, `loads` of four with an indexed load; modes and enables that have a meaning of their own are drawn more often than others
@@ -54,42 +59,70 @@ static uint64_t vecint_operand(unsigned loads) {
 
 static struct call draw(unsigned loads) {
     static const uint64_t instruction[] = {0, 13, 15, 17, 19, (1ull << 32) + MAC16, (1ull << 8) + VECINT};
-    static const uint64_t generation[] = {0, 3, 4, (1ull << 32) + 1, (1ull << 8) + 2};
+    static const uint64_t generation[] = {0, 3, 4, (1ull << 32) + 1, (1ull << 8) + 2}, length[] = {LENGTH - 1, LENGTH + 1, AMX_COUNT_AT};
     struct call c = {LENGTH, below(3) ? VECINT : MAC16, 1 + below(2), next()};
     if (c.instruction == VECINT && below(16)) c.operand = vecint_operand(loads);
     if (below(64) == 0) c.instruction = below(8) ? instruction[below(7)] : next();
     if (below(64) == 0) c.generation = below(8) ? generation[below(5)] : next();
-    if (below(64) == 0) c.length = below(2) ? below(ROOM) : LENGTH - 1 + 2 * below(2);
+    if (below(64) == 0) c.length = below(2) ? below(ROOM) : length[below(3)];
     return c;
 }
 
-static uint64_t run(int v, struct call c) { return version[v](state[v], c.length, c.instruction, c.generation, c.operand); }
+static uint64_t count_of(int v) {
+    uint64_t count;
+    memcpy(&count, state[v] + AMX_COUNT_AT, sizeof count);
+    return count;
+}
 
-static void differ(const char *what, int n, struct call c) {
-    fprintf(stderr, "%s at step %d: length %llu, instruction %llu, generation %llu, operand %016llx\n", what, n, (unsigned long long)c.length,
-            (unsigned long long)c.instruction, (unsigned long long)c.generation, (unsigned long long)c.operand);
+// the serial due, and now and then another: an old one, a future one, one that differs in a bit, an end of their range, or any
+static uint64_t draw_serial(uint64_t count) {
+    if (below(64)) return count;
+    switch (below(8)) {
+    case 0: return count - 1;
+    case 1: return count + 1;
+    case 2: return count - below(1000);
+    case 3: return count + below(1000);
+    case 4: return count ^ 1ull << below(64);
+    case 5: return 0;
+    case 6: return UINT64_MAX;
+    default: return next();
+    }
+}
+
+static uint64_t run(int v, struct call c, uint64_t serial) { return version[v](state[v], c.length, c.instruction, c.generation, c.operand, serial); }
+
+static void differ(const char *what, int n, struct call c, uint64_t count, uint64_t serial) {
+    fprintf(stderr, "%s at step %d: length %llu, instruction %llu, generation %llu, operand %016llx, count %llu, serial %llu\n", what, n,
+            (unsigned long long)c.length, (unsigned long long)c.instruction, (unsigned long long)c.generation, (unsigned long long)c.operand,
+            (unsigned long long)count, (unsigned long long)serial);
     exit(1);
 }
 
 static void compare(void) {
-    int done = 0, no_op[4] = {0}, refused[5] = {0};
+    int done = 0, no_op[4] = {0}, refused[10] = {0};
     for (int n = 0; n < RANDOM_STEPS; n++) {
-        if (n % 64 == 0) fill(n / 64 % 2);
+        if (n % 64 == 0) {
+            fill(n / 64 % 2);
+            if (below(64) == 0) set_count(UINT64_MAX - below(64));
+            else if (below(4) == 0) set_count(0);
+        }
         struct call c = draw(1), normal = c;
         normal.operand = amx_normal_operand(c.instruction, c.generation, c.operand);
-        uint64_t answer = run(0, c);
+        uint64_t count = count_of(0), serial = draw_serial(count), answer = run(0, c, serial);
         for (int v = 1; v < VERSIONS; v++)
-            if (run(v, v + 1 < VERSIONS ? c : normal) != answer || memcmp(state[v], state[0], ROOM)) differ("the versions differ", n, c);
+            if (run(v, v + 1 < VERSIONS ? c : normal, serial) != answer || memcmp(state[v], state[0], ROOM)) differ("the versions differ", n, c, count, serial);
         uint64_t asked = amx_normal_answer(c.instruction, c.generation, c.operand);
-        if (c.length == LENGTH && asked != (answer < NO_OP ? 0 : answer)) differ("the normal operand is answered otherwise", n, c);
-        if (normal.operand != amx_normal_operand(c.instruction, c.generation, normal.operand)) differ("the normal operand is not normal", n, c);
+        int of_call = c.length == LENGTH && answer != REFUSED + 8 && answer != REFUSED + 9;
+        if (of_call && asked != (answer < NO_OP ? 0 : answer)) differ("the normal operand is answered otherwise", n, c, count, serial);
+        if (normal.operand != amx_normal_operand(c.instruction, c.generation, normal.operand)) differ("the normal operand is not normal", n, c, count, serial);
         if (answer < NO_OP) done++;
         else if (answer < REFUSED) no_op[answer - NO_OP]++;
         else refused[answer - REFUSED]++;
     }
     printf("%d random steps: same bytes, same answers\ndone %d", RANDOM_STEPS, done);
     for (int i = 1; i < 4; i++) printf(", no-op %d: %d", i, no_op[i]);
-    for (int i = 1; i < 5; i++) printf(", refused %d: %d", i, refused[i]);
+    static const int refusal[] = {1, 2, 3, 4, 8, 9};
+    for (int i = 0; i < 6; i++) printf(", refused %d: %d", refusal[i], refused[refusal[i]]);
     printf("\n");
 }
 
@@ -104,14 +137,20 @@ static int order(const void *a, const void *b) {
     return (x > y) - (x < y);
 }
 
+// a list of steps that are done, so that each raises the count
 static void measure(const char *form, const struct call *list, int length, int times) {
     static double time[VERSIONS][RUNS];
     for (int r = 0; r < RUNS; r++)
         for (int v = 0; v < VERSIONS; v++) {
+            uint64_t serial = count_of(v);
             double start = seconds();
             for (int t = 0; t < times; t++)
-                for (int n = 0; n < length; n++) run(v, list[n]);
+                for (int n = 0; n < length; n++) run(v, list[n], serial++);
             time[v][r] = seconds() - start;
+            if (count_of(v) != serial) {
+                fprintf(stderr, "%s: a step was refused\n", form);
+                exit(1);
+            }
         }
     for (int v = 0; v < VERSIONS; v++) qsort(time[v], RUNS, sizeof(double), order);
     double proved = time[0][RUNS / 2];
@@ -135,7 +174,7 @@ static void mixed(const char *form, unsigned loads) {
     static struct call list[MIXED];
     for (int n = 0; n < MIXED;) {
         list[n] = draw(loads);
-        if (indexed(list[n]) == (loads > 0) && run(1, list[n]) < NO_OP) n++;
+        if (indexed(list[n]) == (loads > 0) && run(1, list[n], count_of(1)) < NO_OP) n++;
     }
     fill(0);
     measure(form, list, MIXED, 1);

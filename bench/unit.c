@@ -1,5 +1,5 @@
 // The step written from the papers, apart from the proved code: what the benchmark compares with.
-// Built once for the baseline target and once for this machine, under the name that NAME gives. Lanes are the machine's own, little-endian.
+// Built once for the baseline target and once for this machine, under the name that NAME gives. Lanes and the count are the machine's own, little-endian.
 #include <stdbool.h>
 #include <stdint.h>
 #include <string.h>
@@ -102,7 +102,7 @@ static uint64_t mac16(uint8_t *state, uint64_t op) {
     return 2 * nx * ny;
 }
 
-enum { NO_OP = 65536, REFUSED = 131072, ROUND = 1 << 14 };
+enum { NO_OP = 65536, REFUSED = 131072, ROUND = 1 << 14, LENGTH = 5128, COUNT = 5120 };
 
 // what a vecint operand says; widths in bytes
 struct vecint {
@@ -352,10 +352,18 @@ static uint64_t vecint(uint8_t *state, unsigned generation, uint64_t op) {
     return on * v.z * (64 / v.stride);
 }
 
-uint64_t NAME(uint8_t *state, uint64_t length, uint64_t instruction, uint64_t generation, uint64_t operand) {
-    if (length != 5120) return REFUSED + 1;
+uint64_t NAME(uint8_t *state, uint64_t length, uint64_t instruction, uint64_t generation, uint64_t operand, uint64_t serial) {
+    if (length != LENGTH) return REFUSED + 1;
     if (generation != 1 && generation != 2) return REFUSED + 2;
-    if (instruction == 14) return mac16(state, operand);
-    if (instruction == 18) return vecint(state, generation, operand);
-    return REFUSED + 3;
+    if (instruction != 14 && instruction != 18) return REFUSED + 3;
+    uint64_t count;
+    memcpy(&count, state + COUNT, sizeof count);
+    if (count == UINT64_MAX) return REFUSED + 9;
+    if (serial != count) return REFUSED + 8;
+    uint64_t answer = instruction == 14 ? mac16(state, operand) : vecint(state, generation, operand);
+    if (answer < REFUSED) {
+        count++;
+        memcpy(state + COUNT, &count, sizeof count);
+    }
+    return answer;
 }

@@ -7,22 +7,31 @@
 extern "C" {
 #endif
 
-// The state's length in bytes: X at 0 (512 bytes), Y at 512 (512 bytes), Z at 1,024 (64 rows of 64 bytes). Lanes are little-endian.
-#define AMX_STATE_LENGTH 5120
+// The state's length in bytes: X at 0 (512 bytes), Y at 512 (512 bytes), Z at 1,024 (64 rows of 64 bytes), then the count of steps taken, a
+// u64. Lanes and the count are little-endian.
+#define AMX_STATE_LENGTH 5128
+// Where the count lies; the registers are the bytes before it.
+#define AMX_COUNT_AT 5120
 
 // Instructions: 14 is mac16, 18 is vecint. Generations: 1 is M1, 2 is M2. vecint with a shuffle (bits 27..30 not all 0 outside ALU mode 4) is
 // not covered and refused 4; with an indexed load (bit 53) it is done as ALU mode 0.
 
 // One step on a lent state. The bytes are the caller's: they are read and written during the call only, and no other call may use them
-// meanwhile. `state` points to `length` bytes; it may be any pointer that is not null where `length` is 0. A length other than 5,120 is
-// refused 1. Answers the number of Z bytes in the lanes enabled, 0 to 4,096 (done), or 65,536 + the reason of a no-op, or 131,072 + the number
-// of a refusal; a no-op and a refusal change no byte.
-uint64_t amx_step(uint8_t *state, uint64_t length, uint64_t instruction, uint64_t generation, uint64_t operand);
+// meanwhile. `state` points to `length` bytes; it may be any pointer that is not null where `length` is 0. A length other than
+// AMX_STATE_LENGTH is refused 1. Answers the number of Z bytes in the lanes enabled, 0 to 4,096 (done), or 65,536 + the reason of a no-op, or
+// 131,072 + the number of a refusal. Done and no-op raise the count by one; a no-op changes nothing else, and a refusal changes no byte.
+//
+// `serial` is the count before the step, by which the caller names it: any other is refused 8, and where the count is 2^64 - 1 every serial is
+// refused 9. So a call that may not have arrived can be sent again with the same serial, and adds once: if it was done, and only steps have
+// written the state since, it is now refused 8 (or 9) and changes no byte. The first of these that applies is answered: refused 1, 2, 3, 9, 8,
+// no-op 1, 2, 3, refused 4, done.
+uint64_t amx_step(uint8_t *state, uint64_t length, uint64_t instruction, uint64_t generation, uint64_t operand, uint64_t serial);
 
-// 0 where the step would be done on a state of 5,120 bytes, or the step's own number of a no-op or a refusal.
+// 0 where the step would be done with the serial due, or the step's own number of a no-op or a refusal: never refused 1, 8 or 9.
 uint64_t amx_normal_answer(uint64_t instruction, uint64_t generation, uint64_t operand);
 
-// The normal operand: the operand with its ignored bits cleared. The operand as given where the step would not be done.
+// The normal operand: the operand with its ignored bits cleared; with it the step has the same answer and effect on every state, with every
+// serial. The operand as given where the step would not be done.
 uint64_t amx_normal_operand(uint64_t instruction, uint64_t generation, uint64_t operand);
 
 #ifdef __cplusplus

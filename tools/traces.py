@@ -9,7 +9,8 @@ import pathlib
 import random
 import struct
 
-STATE, MAC16, VECINT = 5120, 14, 18
+REGISTERS, MAC16, VECINT = 5120, 14, 18
+LAST = (1 << 64) - 1
 
 
 def bits(op, low, count):
@@ -180,13 +181,29 @@ def vecint(state, generation, op):
 
 # ---- the step and the trace
 
-def step(state, instruction, generation, op):
+def taken(state):
+    """The count, a u64 after the registers."""
+    return int.from_bytes(state[REGISTERS:], "little")
+
+
+def step(state, instruction, generation, op, serial):
+    """One step on a state of registers and a count of steps taken, which done and no-op raise."""
+    count = taken(state)
     if generation not in (1, 2):
         return "refused 2"
     if instruction not in (MAC16, VECINT):
         return "refused 3"
-    if instruction == MAC16:
-        return f"done {mac16(state, op)}"
+    if count == LAST:
+        return "refused 9"
+    if serial != count:
+        return "refused 8"
+    answer = f"done {mac16(state, op)}" if instruction == MAC16 else vecint_answer(state, generation, op)
+    if not answer.startswith("refused"):
+        state[REGISTERS:] = (count + 1).to_bytes(8, "little")
+    return answer
+
+
+def vecint_answer(state, generation, op):
     mode = alu_mode(op)
     if bits(op, 54, 3):
         return "no-op 1"
@@ -204,21 +221,21 @@ def text(file):
         return "file refused 5\n"
     fields = struct.unpack_from("<IHHIIHHII", file)
     n = fields[8] // 16
-    if fields != (2, 1, 0, 28, STATE, 2, 0, 5148, 16 * n) or n > 2048 or len(file) != 5148 + 16 * n:
+    if fields != (2, 1, 0, 28, REGISTERS, 2, 0, 5148, 16 * n) or n > 2048 or len(file) != 5148 + 16 * n:
         return "file refused 6\n"
     records = [struct.unpack_from("<BB6sQ", file, 5148 + 16 * i) for i in range(n)]
     if any(any(r[2]) for r in records):
         return "file refused 7\n"
     start = file[28:5148]
-    state = bytearray(start)
-    lines = [f"step {i} {step(state, r[0], r[1], r[3])}" for i, r in enumerate(records)]
+    state = bytearray(start + bytes(8))
+    lines = [f"step {i} {step(state, r[0], r[1], r[3], taken(state))}" for i, r in enumerate(records)]
     lines += [f"z {r} {z_row(state, r).hex()}" for r in range(64) if z_row(state, r) != z_row(start, r)]
     return "\n".join(lines + [f"steps {n}"]) + "\n"
 
 
-def trace(state, steps):
-    head = struct.pack("<IHHIIHHII", 2, 1, 0, 28, STATE, 2, 0, 5148, 16 * len(steps))
-    return head + bytes(state) + b"".join(struct.pack("<BB6xQ", *s) for s in steps)
+def trace(registers, steps):
+    head = struct.pack("<IHHIIHHII", 2, 1, 0, 28, REGISTERS, 2, 0, 5148, 16 * len(steps))
+    return head + bytes(registers) + b"".join(struct.pack("<BB6xQ", *s) for s in steps)
 
 
 # ---- the traces
@@ -239,18 +256,18 @@ def product():
     """A times B, plus a bias, halved and clamped to 8 bits. Each step of the product takes a row of B from X and a column of A from Y."""
     a = [[1, -2, 3, 4], [5, 6, -7, 8], [9, 10, 11, 12], [-13, 14, 15, 16]]
     b = [[2, 0, 1, -1], [0, 3, 1, 4], [5, -1, 1, 2], [1, 1, -6, 20]]
-    state = bytearray(STATE)
+    registers = bytearray(REGISTERS)
     for k in range(4):
-        struct.pack_into("<4h", state, 64 * k, *b[k])
-        struct.pack_into("<4h", state, 512 + 64 * k, *(row[k] for row in a))
-    struct.pack_into("<4h", state, 256, 100, 200, -100, 0)
+        struct.pack_into("<4h", registers, 64 * k, *b[k])
+        struct.pack_into("<4h", registers, 512 + 64 * k, *(row[k] for row in a))
+    struct.pack_into("<4h", registers, 256, 100, 200, -100, 0)
     bias = dict(alu=11, mode=4, value=4, x=256, x_signed=1)
     halve = dict(alu=4, mode=4, value=4, x_signed=1, shift=1, rounding=1, saturate=1, y_signed=1, widths=11)
     steps = [call(MAC16, 1, x_mode=2, x_value=4, y_mode=2, y_value=4, x=64 * k, y=64 * k) for k in range(4)]
     steps += [call(VECINT, 1, **bias)]  # M1 has no such mode
     steps += [call(VECINT, 2, z=2 * j, **bias) for j in range(4)]
     steps += [(VECINT, 2, 1 << 27)]  # a shuffle
-    return trace(state, steps + [call(VECINT, 2, z=2 * j, **halve) for j in range(4)])
+    return trace(registers, steps + [call(VECINT, 2, z=2 * j, **halve) for j in range(4)])
 
 
 def answers(rng):
@@ -263,14 +280,14 @@ def answers(rng):
     steps += [call(VECINT, 2, several=1, z=37, value=c) for c in range(8)]
     steps += [(VECINT, 1, 1 << b) for b in (53, 54, 55, 56)] + [call(VECINT, 2, alu=m) for m in (7, 8, 9, 13, 63)]
     steps += [call(VECINT, 1, alu=m) for m in (10, 11, 12)] + [(VECINT, 2, 1 << b) for b in (27, 28, 29, 30)]
-    return trace(rng.randbytes(STATE), steps)
+    return trace(rng.randbytes(REGISTERS), steps)
 
 
 def mixed_widths(rng):
     """Widths 12 and 13, whose mask is read at two lane widths, in every enable mode and at the values where lanes begin, end or change side."""
     values = (0, 1, 2, 3, 4, 5, 6, 16, 31, 32, 33, 40, 63)
     steps = [call(VECINT, 1, widths=w, mode=m, value=n, z=(4 * m + n) % 64, x=n) for w in (12, 13) for m in range(8) for n in values]
-    return trace(rng.randbytes(STATE), steps)
+    return trace(rng.randbytes(REGISTERS), steps)
 
 
 def indexed_loads(rng):
@@ -289,7 +306,7 @@ def indexed_loads(rng):
             for name, n in dict(ignored=2, register=8, x_signed=2, y_signed=2, shift=4, z=32, x=512, y=512).items():
                 form[name] = rng.randrange(n)
             steps += [call(VECINT, generation, **{**form, **fields})]
-    return trace(rng.randbytes(STATE), steps + [(VECINT, 2, 1 << 53 | 1 << b) for b in (27, 28, 29, 30, 52, 54, 55, 56)])
+    return trace(rng.randbytes(REGISTERS), steps + [(VECINT, 2, 1 << 53 | 1 << b) for b in (27, 28, 29, 30, 52, 54, 55, 56)])
 
 
 def any_step(rng):
@@ -306,30 +323,30 @@ def any_step(rng):
 
 def damaged():
     """Files that are refused: by one change to a file of three steps, or by their length."""
-    good = trace(bytes(STATE), [call(MAC16, 1, vector=1)] * 3)
+    good = trace(bytes(REGISTERS), [call(MAC16, 1, vector=1)] * 3)
 
     def changed(at, new, size=1):
         return good[:at] + new.to_bytes(size, "little") + good[at + size:]
 
     yield from (("short_0", b""), ("short_27", good[:27]), ("contents_alone", good[:28]), ("count_1", changed(0, 1)), ("count_high_byte", changed(3, 1)))
-    for entry, at, offset, length in (("first", 4, 28, STATE), ("second", 16, 5148, 48)):
+    for entry, at, offset, length in (("first", 4, 28, REGISTERS), ("second", 16, 5148, 48)):
         yield from ((f"{entry}_kind", changed(at, 3)), (f"{entry}_zero", changed(at + 2, 1)), (f"{entry}_offset", changed(at + 4, offset + 1, 4)))
         yield from ((f"{entry}_length_short", changed(at + 8, length - 1, 4)), (f"{entry}_length_long", changed(at + 8, length + 1, 4)))
     yield from (("second_length_step_short", changed(24, 32)), ("second_length_step_long", changed(24, 64)))
     yield from (("byte_short", good[:-1]), ("byte_long", good + bytes(1)), ("step_long", good + bytes(16)))
     yield from (("padding_first", changed(5150, 1)), ("padding_last", changed(5187, 128)), ("padding_and_byte_long", changed(5150, 1) + bytes(1)))
-    yield "most_steps_and_a_byte", trace(bytes(STATE), [(0, 0, 0)] * 2048) + bytes(1)
-    yield "too_many_steps", trace(bytes(STATE), [(0, 0, 0)] * 2049)
+    yield "most_steps_and_a_byte", trace(bytes(REGISTERS), [(0, 0, 0)] * 2048) + bytes(1)
+    yield "too_many_steps", trace(bytes(REGISTERS), [(0, 0, 0)] * 2049)
 
 
 def stored():
     rng = random.Random(14)
     yield "product", product()
-    yield "no_steps", trace(rng.randbytes(STATE), [])
+    yield "no_steps", trace(rng.randbytes(REGISTERS), [])
     there, back = call(MAC16, 1, vector=1, z=9), call(VECINT, 1, alu=1, x_signed=1, y_signed=1, z=9)
-    yield "changed_back", trace(rng.randbytes(STATE), [there, back])
+    yield "changed_back", trace(rng.randbytes(REGISTERS), [there, back])
     yield "answers", answers(rng)
-    yield "most_steps", trace(rng.randbytes(STATE), [any_step(rng) for _ in range(2048)])
+    yield "most_steps", trace(rng.randbytes(REGISTERS), [any_step(rng) for _ in range(2048)])
     yield "mixed_widths", mixed_widths(rng)
     yield "indexed_loads", indexed_loads(rng)
     yield from damaged()
@@ -346,7 +363,7 @@ def write(crate, traces, named, unread):
 
 
 if __name__ == "__main__":
-    sample = bytearray(STATE)
+    sample = bytearray(REGISTERS)
     sample[0], sample[512] = 3, 2
     write("amx_trace", [("sample.trace", trace(sample, [(MAC16, 1, 1 << 63), (VECINT, 1, 1 << 54)]))], False, [])
     write("traces", [(name + ".trace", file) for name, file in stored()], True, ["missing.trace", "."])

@@ -6,7 +6,7 @@ const REFUSED: u64 = 131_072;
 /// The bytes of Z, which are the most that a step can report.
 const MOST: u64 = 4_096;
 
-/// What a step answers. A no-op and a refusal leave every byte of the state as it was.
+/// What a step answers. A step that is done or a no-op raises the state's count by one; a no-op changes nothing else, and a refusal no byte.
 ///
 /// `{}` writes the words of a step line, `{:#}` what the number is as well.
 ///
@@ -27,7 +27,7 @@ pub enum Answer {
     },
     /// The chip would do nothing either.
     NoOp(Reason),
-    /// The unit does not cover the call.
+    /// The unit does not cover the call, or the serial is not the one due.
     Refused(Refusal),
 }
 
@@ -45,7 +45,7 @@ pub enum Reason {
 /// Why a call is refused. The discriminant is the refusal's number.
 #[derive(Clone, Copy, Debug, PartialEq, Eq, Hash)]
 pub enum Refusal {
-    /// The state is not of 5,120 bytes.
+    /// The state is not of 5,128 bytes.
     StateLength = 1,
     /// The generation is not 1 or 2.
     Generation = 2,
@@ -53,6 +53,10 @@ pub enum Refusal {
     Instruction = 3,
     /// vecint, a shuffle outside ALU mode 4.
     NotCovered = 4,
+    /// The serial is not the count of steps taken, as when the step was taken already.
+    Serial = 8,
+    /// The count of steps taken is 2^64 - 1, whatever the serial: the state takes no more.
+    LastCount = 9,
 }
 
 impl Answer {
@@ -76,7 +80,7 @@ impl Answer {
     /// use amx::{Answer, Reason};
     /// assert_eq!(Answer::from_number(65_537), Some(Answer::NoOp(Reason::ReservedBits)));
     /// assert_eq!((Answer::from_number(4_096), Answer::from_number(4_097)), (Some(Answer::Done { bytes: 4_096 }), None));
-    /// assert_eq!(Answer::from_number(65_536), None);
+    /// assert_eq!((Answer::from_number(65_536), Answer::from_number(131_077)), (None, None));
     /// ```
     pub fn from_number(number: u64) -> Option<Self> {
         use {Reason::*, Refusal::*};
@@ -86,7 +90,7 @@ impl Answer {
             NO_OP..REFUSED => {
                 [ReservedBits, ReservedMode, LaterMode].into_iter().find(|&reason| reason as u64 == number - NO_OP).map(Answer::NoOp)
             }
-            _ => [StateLength, Generation, Instruction, NotCovered]
+            _ => [StateLength, Generation, Instruction, NotCovered, Serial, LastCount]
                 .into_iter()
                 .find(|&refusal| refusal as u64 == number - REFUSED)
                 .map(Answer::Refused),
@@ -125,10 +129,12 @@ impl fmt::Display for Reason {
 impl fmt::Display for Refusal {
     fn fmt(&self, f: &mut fmt::Formatter) -> fmt::Result {
         f.write_str(match self {
-            Refusal::StateLength => "the state is not of 5,120 bytes",
+            Refusal::StateLength => "the state is not of 5,128 bytes",
             Refusal::Generation => "the generation is not 1 or 2",
             Refusal::Instruction => "the instruction is not 14 (mac16) or 18 (vecint)",
             Refusal::NotCovered => "shuffles (bits 27..30 outside ALU mode 4) are not covered",
+            Refusal::Serial => "the serial is not the count of steps taken",
+            Refusal::LastCount => "the count of steps taken is at its last, 2^64 - 1",
         })
     }
 }

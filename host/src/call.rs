@@ -76,37 +76,42 @@ impl Call {
     }
 }
 
-/// One step of the proved unit.
+/// One step of the proved unit. Its serial is the state's [`count`](State::count) before it.
+///
+/// A call that may not have arrived can be sent again with the same serial, and adds once:
 ///
 /// ```
-/// use amx::{Answer, Call, Generation, Mac16, Register, State, Width, step};
+/// use amx::{Answer, Call, Generation, Mac16, Refusal, Register, State, Width, step};
 /// let mut state = State::new();
 /// state.set_lane(Register::X(0), 0, Width::Bits16, 3);
 /// state.set_lane(Register::Y(0), 0, Width::Bits16, -2);
 /// state.set_lane(Register::Z(5), 0, Width::Bits16, 10);
 ///
 /// let call = Call::mac16(Generation::M1, Mac16::new().vector(true).z_row(5)?);
-/// assert_eq!(step(&mut state, call), Answer::Done { bytes: 64 });
+/// let serial = state.count();
+/// assert_eq!(step(&mut state, call, serial), Answer::Done { bytes: 64 });
+/// assert_eq!(step(&mut state, call, serial), Answer::Refused(Refusal::Serial));
 /// assert_eq!(state.signed_lane(Register::Z(5), 0, Width::Bits16), 4);
+/// assert_eq!(state.count(), serial + 1);
 /// # Ok::<(), amx::FieldError>(())
 /// ```
-pub fn step(state: &mut State, call: Call) -> Answer {
-    step_bytes(state.bytes_mut(), call.instruction, call.generation, call.operand)
+pub fn step(state: &mut State, call: Call, serial: u64) -> Answer {
+    step_bytes(state.bytes_mut(), call.instruction, call.generation, call.operand, serial)
 }
 
-/// One step of the proved unit on bytes of any length; a length other than 5,120 is refused.
+/// One step of the proved unit on bytes of any length; a length other than [`STATE_LENGTH`](crate::STATE_LENGTH) is refused.
 ///
 /// ```
-/// use amx::{Answer, Refusal, step_bytes};
-/// assert_eq!(step_bytes(&mut [0; 5_119], 14, 1, 0), Answer::Refused(Refusal::StateLength));
-/// assert_eq!(step_bytes(&mut [0; 5_120], 14, 1, 1 << 63), Answer::Done { bytes: 64 });
+/// use amx::{Answer, REGISTER_BYTES, Refusal, STATE_LENGTH, step_bytes};
+/// assert_eq!(step_bytes(&mut [0; REGISTER_BYTES], 14, 1, 1 << 63, 0), Answer::Refused(Refusal::StateLength));
+/// assert_eq!(step_bytes(&mut [0; STATE_LENGTH], 14, 1, 1 << 63, 0), Answer::Done { bytes: 64 });
 /// ```
-pub fn step_bytes(state: &mut [u8], instruction: u64, generation: u64, operand: u64) -> Answer {
-    answered(unit::step(state, instruction, generation, operand))
+pub fn step_bytes(state: &mut [u8], instruction: u64, generation: u64, operand: u64, serial: u64) -> Answer {
+    answered(unit::step(state, instruction, generation, operand, serial))
 }
 
-/// The normal operand of a call: its ignored bits cleared. The step with it has the same answer and effect on every state of 5,120 bytes.
-/// An error is the step's own no-op or refusal.
+/// The normal operand of a call: its ignored bits cleared. The step with it has the same answer and effect on every state, with every
+/// serial. An error is the step's own no-op, or its refusal of the generation, the instruction or a shuffle.
 ///
 /// ```
 /// use amx::{Answer, Call, Reason, normal};
@@ -120,15 +125,21 @@ pub fn normal(call: Call) -> Result<u64, Answer> {
     }
 }
 
-/// Every call of a list in turn on one state, with the answer of each.
+/// Every call of a list in turn on one state, each with the serial then due; the answer of each.
 ///
 /// ```
 /// use amx::{Answer, Call, Reason, State, run};
 /// let calls = [Call::new(14, 1, 1 << 63), Call::new(18, 1, 1 << 54)];
-/// assert_eq!(run(&mut State::new(), &calls), [Answer::Done { bytes: 64 }, Answer::NoOp(Reason::ReservedBits)]);
+/// let mut state = State::new();
+/// assert_eq!(run(&mut state, &calls), [Answer::Done { bytes: 64 }, Answer::NoOp(Reason::ReservedBits)]);
+/// assert_eq!(state.count(), 2);
 /// ```
 pub fn run(state: &mut State, calls: &[Call]) -> Vec<Answer> {
-    calls.iter().map(|&call| step(state, call)).collect()
+    let send = |&call: &Call| {
+        let serial = state.count();
+        step(state, call, serial)
+    };
+    calls.iter().map(send).collect()
 }
 
 fn answered(number: u64) -> Answer {
@@ -140,23 +151,23 @@ fn answered(number: u64) -> Answer {
 #[allow(unsafe_code)]
 mod unit {
     unsafe extern "C" {
-        fn amx_step(state: *mut u8, length: u64, instruction: u64, generation: u64, operand: u64) -> u64;
+        fn amx_step(state: *mut u8, length: u64, instruction: u64, generation: u64, operand: u64, serial: u64) -> u64;
         #[link_name = "amx_normal_answer"]
         pub safe fn normal_answer(instruction: u64, generation: u64, operand: u64) -> u64;
         #[link_name = "amx_normal_operand"]
         pub safe fn normal_operand(instruction: u64, generation: u64, operand: u64) -> u64;
     }
 
-    pub fn step(state: &mut [u8], instruction: u64, generation: u64, operand: u64) -> u64 {
+    pub fn step(state: &mut [u8], instruction: u64, generation: u64, operand: u64, serial: u64) -> u64 {
         // SAFETY: pointer and length are of one slice, lent to this call alone; amx_step keeps neither and takes every number
-        unsafe { amx_step(state.as_mut_ptr(), state.len() as u64, instruction, generation, operand) }
+        unsafe { amx_step(state.as_mut_ptr(), state.len() as u64, instruction, generation, operand, serial) }
     }
 }
 
 #[cfg(test)]
 mod tests {
     use super::*;
-    use crate::{random::Random, reference};
+    use crate::{STATE_LENGTH, random::Random, reference};
 
     #[test]
     fn an_operand_that_is_not_done_is_handed_back_as_given() {
@@ -170,10 +181,10 @@ mod tests {
 
     #[test]
     fn numbers_above_their_bytes_are_refused() {
-        let refusal = |instruction, generation| step_bytes(&mut [0; 5_120], instruction, generation, 0).to_string();
+        let refusal = |instruction, generation| step_bytes(&mut [0; STATE_LENGTH], instruction, generation, 0, 0).to_string();
         assert_eq!(refusal((1 << 32) + 14, 1), "refused 3");
         assert_eq!(refusal(14, (1 << 32) + 1), "refused 2");
         assert_eq!(refusal(15, 3), "refused 2");
-        assert_eq!(step_bytes(&mut [], 15, 3, 0).to_string(), "refused 1");
+        assert_eq!(step_bytes(&mut [], 15, 3, 0, 0).to_string(), "refused 1");
     }
 }

@@ -16,7 +16,7 @@ pub struct Explanation {
     pub ignored: u64,
     /// The operand with the ignored bits cleared.
     pub normal: u64,
-    /// What the step answers on a state of 5,120 bytes.
+    /// What the step answers where its serial is the one due.
     pub answer: Answer,
 }
 
@@ -29,7 +29,7 @@ pub struct Explanation {
 /// assert!(explanation.to_string().contains("ignored and set: bit 62"));
 /// ```
 pub fn explain(call: Call) -> Result<Explanation, Answer> {
-    let answer = step(&mut State::new(), call);
+    let answer = step(&mut State::new(), call, 0);
     let (Some(instruction), Some(generation)) = (Instruction::from_number(call.instruction), Generation::from_number(call.generation))
     else {
         return Err(answer);
@@ -250,7 +250,7 @@ fn widths(mode: u64, number: u64) -> &'static str {
 /// # Ok::<(), amx::FieldError>(())
 /// ```
 pub fn lane_grid(call: Call) -> String {
-    let answer = step(&mut State::new(), call);
+    let answer = step(&mut State::new(), call, 0);
     let lanes = reference::lanes(call.instruction, call.generation, call.operand);
     let Some(bytes) = lanes.first().map(|lane| lane.bytes) else {
         return format!("{answer:#}\n");

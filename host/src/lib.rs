@@ -1,6 +1,7 @@
 //! The AMX integer unit for people who write kernels: safe calls of the proved unit, libamx.a.
 //!
-//! - [`State`] holds the registers; [`step`] does one call on it, and [`step_bytes`] does so on bytes of any length.
+//! - [`State`] holds the registers and the count of steps taken; [`step`] does one call on it, and [`step_bytes`] does so on bytes of any
+//!   length. A call names the count before it, its serial, so that one sent twice adds once.
 //! - [`Answer`] tells a step that was done from a no-op and a refusal, with the reason.
 //! - [`Mac16`] and [`Vecint`] build operands by field; [`explain`] goes back, with the ignored bits; [`normal`] clears those.
 //! - [`Trace`] reads and writes trace files, and [`text`] their texts.
@@ -15,7 +16,7 @@
 //! state.set_lane(Register::Y(0), 0, Width::Bits8, -1);
 //! let fields = Vecint::new(0, Vectors::One)?.lane_widths(11)?.y_signed(true)?;
 //!
-//! assert_eq!(step(&mut state, Call::vecint(Generation::M1, fields)), Answer::Done { bytes: 128 });
+//! assert_eq!(step(&mut state, Call::vecint(Generation::M1, fields), 0), Answer::Done { bytes: 128 });
 //! assert_eq!(state.signed_lane(Register::Z(0), 0, Width::Bits16), -255);
 //! # Ok::<(), amx::FieldError>(())
 //! ```
@@ -36,5 +37,5 @@ pub use answer::{Answer, Reason, Refusal};
 pub use call::{Call, Generation, Instruction, normal, run, step, step_bytes};
 pub use explain::{Explanation, explain, lane_grid};
 pub use operand::{Field, FieldError, IndexBits, Mac16, Side, Vecint, Vectors, When, fields, with_field};
-pub use state::{Register, STATE_LENGTH, State, Width};
+pub use state::{REGISTER_BYTES, Register, STATE_LENGTH, State, Width};
 pub use trace::{FileRefusal, NoRecord, Record, Trace, TraceFull};

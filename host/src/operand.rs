@@ -390,7 +390,7 @@ impl Vecint {
     ///
     /// let fields = Vecint::indexed(Side::X, IndexBits::Four, 3, Vectors::One)?;
     /// assert_eq!(fields.operand(), 1 << 53 | 3 << 49 | 1 << 48);
-    /// assert_eq!(step(&mut state, Call::vecint(Generation::M1, fields)), Answer::Done { bytes: 64 });
+    /// assert_eq!(step(&mut state, Call::vecint(Generation::M1, fields), 0), Answer::Done { bytes: 64 });
     /// assert_eq!(state.lane(Register::Z(0), 1, Width::Bits16), 14);
     ///
     /// let error = Vecint::indexed(Side::X, IndexBits::Four, 8, Vectors::One).unwrap_err();

@@ -1,6 +1,6 @@
 //! Random calls and states for comparisons and benchmarks, the same for the same seed.
 
-use crate::{Call, STATE_LENGTH, State};
+use crate::{Call, REGISTER_BYTES, State};
 
 /// A source of random numbers (splitmix64).
 #[derive(Clone, Debug)]
@@ -52,11 +52,11 @@ impl Random {
         (0..length).map(|_| byte(self)).collect()
     }
 
-    /// A state of such bytes.
+    /// A state of such registers, whose count is 0.
     pub fn state(&mut self) -> State {
-        let mut bytes = [0; STATE_LENGTH];
-        bytes.copy_from_slice(&self.bytes(STATE_LENGTH));
-        State::from_bytes(bytes)
+        let mut state = State::new();
+        state.registers_mut().copy_from_slice(&self.bytes(REGISTER_BYTES));
+        state
     }
 
     /// A call, mostly one that is done; unknown instructions and generations, reserved modes and bits are among them.

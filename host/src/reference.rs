@@ -10,6 +10,10 @@ const REFUSED: u64 = 131_072;
 /// Where Z begins in the state.
 const Z: usize = 1_024;
 
+/// The bytes of X, Y and Z. The count of steps taken follows them and ends the state.
+const REGISTERS: usize = 5_120;
+const LENGTH: usize = REGISTERS + 8;
+
 fn bits(operand: u64, low: u32, high: u32) -> usize {
     (operand >> low & ((2 << (high - low)) - 1)) as usize
 }
@@ -40,16 +44,43 @@ impl Lane {
     }
 }
 
-/// The answer of a step that isn't done: the first row of the table that applies.
-fn not_done(length: usize, instruction: u64, generation: u64, operand: u64) -> Option<u64> {
-    if length != 5_120 {
-        return Some(REFUSED + 1);
-    }
+/// The refusal of an unknown generation or instruction.
+fn unknown(instruction: u64, generation: u64) -> Option<u64> {
     if generation != 1 && generation != 2 {
         return Some(REFUSED + 2);
     }
     if instruction != 14 && instruction != 18 {
         return Some(REFUSED + 3);
+    }
+    None
+}
+
+/// The refusal of a step before its operand is read: the first row of the table that applies.
+fn refused(state: &[u8], instruction: u64, generation: u64, serial: u64) -> Option<u64> {
+    if state.len() != LENGTH {
+        return Some(REFUSED + 1);
+    }
+    if let Some(refusal) = unknown(instruction, generation) {
+        return Some(refusal);
+    }
+    if taken(state) == u64::MAX {
+        return Some(REFUSED + 9);
+    }
+    if serial != taken(state) {
+        return Some(REFUSED + 8);
+    }
+    None
+}
+
+/// The steps taken, of a state that has a count.
+fn taken(state: &[u8]) -> u64 {
+    u64_in(&state[REGISTERS..])
+}
+
+/// The answer of a step that isn't done, by the call alone: the first row of the table that applies, where length and serial are right.
+fn not_done(instruction: u64, generation: u64, operand: u64) -> Option<u64> {
+    if let Some(refusal) = unknown(instruction, generation) {
+        return Some(refusal);
     }
     if instruction == 14 {
         return None;
@@ -70,9 +101,9 @@ fn not_done(length: usize, instruction: u64, generation: u64, operand: u64) -> O
     None
 }
 
-/// The Z lanes that a call on a state of 5,120 bytes enables, none where it isn't done.
+/// The Z lanes that a call enables where it is sent with the serial due, none where it isn't done.
 pub fn lanes(instruction: u64, generation: u64, operand: u64) -> Vec<Lane> {
-    match (not_done(5_120, instruction, generation, operand), instruction) {
+    match (not_done(instruction, generation, operand), instruction) {
         (Some(_), _) => Vec::new(),
         (None, 14) => mac16_lanes(operand),
         _ => vecint_lanes(generation, operand),
@@ -81,7 +112,7 @@ pub fn lanes(instruction: u64, generation: u64, operand: u64) -> Vec<Lane> {
 
 /// Whether a step only adds to Z, so that it may be swapped with another such step of the same lane width.
 pub fn only_adds(instruction: u64, generation: u64, operand: u64) -> bool {
-    if not_done(5_120, instruction, generation, operand).is_some() {
+    if not_done(instruction, generation, operand).is_some() {
         return false;
     }
     match instruction {
@@ -91,10 +122,23 @@ pub fn only_adds(instruction: u64, generation: u64, operand: u64) -> bool {
 }
 
 /// One step on a state of any length: the host's number, and the state as the step leaves it.
-pub fn step(state: &mut [u8], instruction: u64, generation: u64, operand: u64) -> u64 {
-    if let Some(answer) = not_done(state.len(), instruction, generation, operand) {
-        return answer;
+pub fn step(state: &mut [u8], instruction: u64, generation: u64, operand: u64, serial: u64) -> u64 {
+    if let Some(refusal) = refused(state, instruction, generation, serial) {
+        return refusal;
     }
+    let answer = match not_done(instruction, generation, operand) {
+        Some(answer) => answer,
+        None => done(state, instruction, generation, operand),
+    };
+    if answer < REFUSED {
+        let count = taken(state) + 1;
+        state[REGISTERS..].copy_from_slice(&count.to_le_bytes());
+    }
+    answer
+}
+
+/// What a done step does to the registers, and the Z bytes in its enabled lanes.
+fn done(state: &mut [u8], instruction: u64, generation: u64, operand: u64) -> u64 {
     let enabled = lanes(instruction, generation, operand);
     match instruction {
         14 => mac16(state, &enabled, operand),
@@ -113,6 +157,11 @@ fn number(bytes: &[u8], signed: bool) -> i64 {
     let unsigned = bytes.iter().rev().fold(0, |n, &byte| n * 256 + i64::from(byte));
     let span = 1 << (8 * bytes.len());
     if signed && unsigned >= span / 2 { unsigned - span } else { unsigned }
+}
+
+/// The little-endian number in 8 bytes.
+fn u64_in(bytes: &[u8]) -> u64 {
+    bytes.iter().rev().fold(0, |n, &byte| n << 8 | u64::from(byte))
 }
 
 /// Stores a result modulo 2 to the lane's width.
@@ -354,7 +403,7 @@ fn reduced(z: i64, shift: usize, operand: u64) -> i64 {
 
 /// The normal operand: the operand with its ignored bits cleared; an error is the number of the step's own no-op or refusal.
 pub fn normal(instruction: u64, generation: u64, operand: u64) -> Result<u64, u64> {
-    if let Some(answer) = not_done(5_120, instruction, generation, operand) {
+    if let Some(answer) = not_done(instruction, generation, operand) {
         return Err(answer);
     }
     let ignored = if instruction == 14 { mac16_ignored(operand) } else { vecint_ignored(generation, operand) };
@@ -425,7 +474,7 @@ fn refused_file(file: &[u8]) -> Option<u64> {
     let entry = |at| (u16_at(file, at), u16_at(file, at + 2), u32_at(file, at + 4), u32_at(file, at + 8));
     let (kind, zero, offset, length) = entry(16);
     let sound = u32_at(file, 0) == 2
-        && entry(4) == (1, 0, 28, 5_120)
+        && entry(4) == (1, 0, 28, REGISTERS as u64)
         && (kind, zero, offset) == (2, 0, 5_148)
         && length % 16 == 0
         && length / 16 <= 2_048
@@ -439,13 +488,15 @@ fn refused_file(file: &[u8]) -> Option<u64> {
 
 fn traced(file: &[u8]) -> String {
     let start = &file[28..5_148];
+    // the registers, and a count of 0
     let mut state = start.to_vec();
+    state.resize(LENGTH, 0);
     let mut text = String::new();
     let records = file[5_148..].chunks(16);
     let count = records.len();
     for (place, record) in records.enumerate() {
-        let operand = record[8..].iter().rev().fold(0, |n, &byte| n << 8 | u64::from(byte));
-        let answer = step(&mut state, record[0].into(), record[1].into(), operand);
+        let serial = taken(&state);
+        let answer = step(&mut state, record[0].into(), record[1].into(), u64_in(&record[8..]), serial);
         let words = match answer {
             REFUSED.. => format!("refused {}", answer - REFUSED),
             NO_OP.. => format!("no-op {}", answer - NO_OP),

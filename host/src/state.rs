@@ -1,11 +1,15 @@
 use std::fmt;
 
 /// The bytes of X, Y and Z together.
-pub const STATE_LENGTH: usize = 5_120;
+pub const REGISTER_BYTES: usize = 5_120;
 
-/// The unit's state: X and Y of 512 bytes each, then the 64 rows of Z.
+/// The bytes of a state: the registers, then the count of steps taken.
+pub const STATE_LENGTH: usize = REGISTER_BYTES + size_of::<u64>();
+
+/// The unit's state: X and Y of 512 bytes each, then the 64 rows of Z, then the count of steps taken.
 ///
-/// X and Y are 8 registers of 64 bytes each and Z is 64 of them, so a [`Register`] names every 64-byte row. Lanes are little-endian.
+/// X and Y are 8 registers of 64 bytes each and Z is 64 of them, so a [`Register`] names every 64-byte row. Lanes and the count are
+/// little-endian.
 ///
 /// ```
 /// use amx::{Register, State, Width};
@@ -14,6 +18,7 @@ pub const STATE_LENGTH: usize = 5_120;
 /// assert_eq!(state.lane(Register::Z(3), 7, Width::Bits16), 65_534);
 /// assert_eq!(state.signed_lane(Register::Z(3), 7, Width::Bits16), -2);
 /// assert_eq!(state.row(Register::Z(3))[14..16], [0xfe, 0xff]);
+/// assert_eq!(state.count(), 0);
 /// ```
 #[derive(Clone, PartialEq, Eq)]
 pub struct State([u8; STATE_LENGTH]);
@@ -89,7 +94,14 @@ impl State {
         State(bytes)
     }
 
-    /// All bytes: X, Y, then the rows of Z.
+    /// A state of these registers, whose count is 0.
+    pub fn from_registers(registers: [u8; REGISTER_BYTES]) -> Self {
+        let mut state = State::new();
+        *state.registers_mut() = registers;
+        state
+    }
+
+    /// All bytes: X, Y, the rows of Z, then the count.
     pub fn bytes(&self) -> &[u8; STATE_LENGTH] {
         &self.0
     }
@@ -97,6 +109,33 @@ impl State {
     /// All bytes, to be written.
     pub fn bytes_mut(&mut self) -> &mut [u8; STATE_LENGTH] {
         &mut self.0
+    }
+
+    /// The bytes of X, Y, then the rows of Z.
+    pub fn registers(&self) -> &[u8; REGISTER_BYTES] {
+        self.0.first_chunk().expect("the registers come first")
+    }
+
+    /// The bytes of X, Y, then the rows of Z, to be written.
+    pub fn registers_mut(&mut self) -> &mut [u8; REGISTER_BYTES] {
+        self.0.first_chunk_mut().expect("the registers come first")
+    }
+
+    /// The count of steps taken, which is the serial due: that of the next step.
+    ///
+    /// ```
+    /// let mut state = amx::State::new();
+    /// state.set_count(258);
+    /// assert_eq!(state.bytes()[amx::REGISTER_BYTES..], [2, 1, 0, 0, 0, 0, 0, 0]);
+    /// assert_eq!(state.count(), 258);
+    /// ```
+    pub fn count(&self) -> u64 {
+        u64::from_le_bytes(*self.0.last_chunk().expect("the count comes last"))
+    }
+
+    /// Writes the count of steps taken. A serial that was used up before may then be due again.
+    pub fn set_count(&mut self, count: u64) {
+        *self.0.last_chunk_mut().expect("the count comes last") = count.to_le_bytes();
     }
 
     /// The 512 bytes of X.
@@ -180,11 +219,16 @@ impl Default for State {
     }
 }
 
-/// Only the registers that are not all 0.
+/// Only the registers that are not all 0, and a count that is not 0.
 impl fmt::Debug for State {
     fn fmt(&self, f: &mut fmt::Formatter) -> fmt::Result {
         let set = Register::all().filter(|&register| self.row(register).iter().any(|&byte| byte != 0));
-        f.debug_map().entries(set.map(|register| (register, self.row(register)))).finish()
+        let mut map = f.debug_map();
+        map.entries(set.map(|register| (register, self.row(register))));
+        if self.count() != 0 {
+            map.entry(&format_args!("count"), &self.count());
+        }
+        map.finish()
     }
 }
 
@@ -203,7 +247,29 @@ mod tests {
         assert_eq!(state.bytes()[1_020..1_024], [5, 0, 0, 0]);
         state.set_lane(Register::Z(63), 15, Width::Bits32, -7);
         assert_eq!(state.signed_lane(Register::Z(63), 15, Width::Bits32), -7);
-        assert_eq!(state.bytes()[5_116..], [0xf9, 0xff, 0xff, 0xff]);
+        assert_eq!(state.registers()[5_116..], [0xf9, 0xff, 0xff, 0xff]);
+        assert_eq!(state.bytes()[5_116..], [0xf9, 0xff, 0xff, 0xff, 0, 0, 0, 0, 0, 0, 0, 0]);
+    }
+
+    #[test]
+    fn the_count_follows_the_registers_and_leaves_them() {
+        let mut state = State::from_registers(std::array::from_fn(|at| at as u8));
+        assert_eq!((state.count(), state.bytes().len()), (0, 5_128));
+        state.set_count(0x0102_0304_0506_0708);
+        assert_eq!(state.bytes()[REGISTER_BYTES..], [8, 7, 6, 5, 4, 3, 2, 1]);
+        assert!(state.registers().iter().enumerate().all(|(at, &byte)| byte == at as u8));
+        assert_eq!(State::from_bytes(*state.bytes()).count(), 0x0102_0304_0506_0708);
+    }
+
+    #[test]
+    fn debug_shows_what_is_not_0() {
+        let mut state = State::new();
+        assert_eq!(format!("{state:?}"), "{}");
+        state.set_count(9);
+        assert_eq!(format!("{state:?}"), "{count: 9}");
+        state.set_lane(Register::Z(5), 0, Width::Bits8, 1);
+        let row = format!("{:?}", state.row(Register::Z(5)));
+        assert_eq!(format!("{state:?}"), format!("{{Z(5): {row}, count: 9}}"));
     }
 
     #[test]

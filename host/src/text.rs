@@ -14,7 +14,7 @@
 //! ```
 
 use crate::{
-    Call, Generation, Instruction, NoRecord, Record, Register, State, Trace, fields,
+    Call, Generation, Instruction, NoRecord, REGISTER_BYTES, Record, Register, State, Trace, fields,
     operand::{find, place},
     with_field,
 };
@@ -50,13 +50,13 @@ impl std::error::Error for TextError {}
 /// ```
 pub fn assemble(text: &str) -> Result<Trace, TextError> {
     let mut trace = Trace::new(State::new());
-    let mut given = [false; crate::STATE_LENGTH];
+    let mut given = [false; REGISTER_BYTES];
     for (number, line) in text.lines().enumerate() {
         let line = line.split('#').next().unwrap_or_default().trim();
         let assembled = match line.split_once(':') {
             _ if line.is_empty() => Ok(()),
             Some(_) if !trace.records().is_empty() => Err("lines of the starting state stand before the first step".to_owned()),
-            Some((place, digits)) => state_line(trace.start_mut(), &mut given, place.trim(), digits),
+            Some((place, digits)) => state_line(trace.registers_mut(), &mut given, place.trim(), digits),
             None => parse_call(line).and_then(|call| {
                 let record = Record::try_from(call).map_err(|error: NoRecord| error.to_string())?;
                 trace.push(record).map_err(|error| error.to_string())
@@ -206,7 +206,7 @@ fn unnamed(instruction: Instruction, generation: Generation, operand: u64, value
 }
 
 /// `x`, `y`: bytes from the first on. `x N`, `y N`, `z N`: bytes of one register.
-fn state_line(state: &mut State, given: &mut [bool], place: &str, digits: &str) -> Result<(), String> {
+fn state_line(registers: &mut [u8], given: &mut [bool], place: &str, digits: &str) -> Result<(), String> {
     let wrong = || format!("expected x, x N, y, y N (N 0 to 7) or z N (0 to 63) before the colon, not {place:?}");
     let words: Vec<&str> = place.split_whitespace().collect();
     let (start, room) = match *words.as_slice() {
@@ -232,7 +232,7 @@ fn state_line(state: &mut State, given: &mut [bool], place: &str, digits: &str) 
         if std::mem::replace(&mut given[at], true) {
             return Err(format!("byte {} of {place} is given twice", at - start));
         }
-        state.bytes_mut()[at] = byte;
+        registers[at] = byte;
     }
     Ok(())
 }

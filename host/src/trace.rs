@@ -1,8 +1,8 @@
-use crate::{Answer, Call, Register, STATE_LENGTH, State, step};
+use crate::{Answer, Call, REGISTER_BYTES, Register, State, run};
 use std::fmt;
 
-/// The bytes of a trace file before its records: a table of 28, then the starting state.
-const HEAD: usize = 28 + STATE_LENGTH;
+/// The bytes of a trace file before its records: a table of 28, then the starting registers.
+const HEAD: usize = 28 + REGISTER_BYTES;
 const RECORD: usize = 16;
 
 /// A step as a trace file holds it: a call whose instruction and generation are bytes.
@@ -16,7 +16,7 @@ pub struct Record {
     pub operand: u64,
 }
 
-/// A starting state and up to 2,048 records.
+/// Starting registers and up to 2,048 records. A run starts at count 0.
 ///
 /// ```
 /// use amx::{Record, State, Trace};
@@ -64,19 +64,20 @@ impl Trace {
     /// The most records that a trace holds.
     pub const MAX_RECORDS: usize = 2_048;
 
-    /// A trace of no records.
-    pub fn new(start: State) -> Self {
+    /// A trace of no records, from a state's registers: a trace holds no count.
+    pub fn new(mut start: State) -> Self {
+        start.set_count(0);
         Trace { start, records: Vec::new() }
     }
 
-    /// The starting state.
+    /// The starting state, whose count is 0.
     pub fn start(&self) -> &State {
         &self.start
     }
 
-    /// The starting state, to be written.
-    pub fn start_mut(&mut self) -> &mut State {
-        &mut self.start
+    /// The starting registers, to be written.
+    pub fn registers_mut(&mut self) -> &mut [u8; REGISTER_BYTES] {
+        self.start.registers_mut()
     }
 
     /// The records, in order.
@@ -110,14 +111,14 @@ impl Trace {
             return Err(FileRefusal::Table);
         }
         let records = records.iter().map(record_from).collect::<Option<_>>().ok_or(FileRefusal::Padding)?;
-        Ok(Trace { start: State::from_bytes(*start), records })
+        Ok(Trace { start: State::from_registers(*start), records })
     }
 
     /// The trace file.
     pub fn to_bytes(&self) -> Vec<u8> {
         let mut file = Vec::with_capacity(HEAD + RECORD * self.records.len());
         file.extend(table_of(self.records.len()));
-        file.extend(self.start.bytes());
+        file.extend(self.start.registers());
         for record in &self.records {
             file.extend([record.instruction, record.generation, 0, 0, 0, 0, 0, 0]);
             file.extend(record.operand.to_le_bytes());
@@ -125,10 +126,11 @@ impl Trace {
         file
     }
 
-    /// Runs the records in turn from the starting state: the end state, and the answer of each.
+    /// Runs the records in turn from the starting state, each with the serial then due: the end state, and the answer of each.
     pub fn run(&self) -> (State, Vec<Answer>) {
         let mut state = self.start.clone();
-        let answers = self.records.iter().map(|&record| step(&mut state, record.into())).collect();
+        let calls: Vec<Call> = self.records.iter().map(|&record| record.into()).collect();
+        let answers = run(&mut state, &calls);
         (state, answers)
     }
 
@@ -146,7 +148,7 @@ impl Trace {
 
 /// The table of a trace of n records: the count of sections, then kind, zero, offset and length of each.
 fn table_of(n: usize) -> [u8; 28] {
-    let words = [2, 1, 28, STATE_LENGTH as u32, 2, HEAD as u32, (RECORD * n) as u32];
+    let words = [2, 1, 28, REGISTER_BYTES as u32, 2, HEAD as u32, (RECORD * n) as u32];
     let mut table = [0; 28];
     table.chunks_mut(4).zip(words).for_each(|(bytes, word)| bytes.copy_from_slice(&word.to_le_bytes()));
     table
@@ -244,6 +246,20 @@ mod tests {
             file[at] ^= 1;
             assert_eq!(Trace::from_bytes(&file), Err(FileRefusal::Table), "byte {at}");
         }
+    }
+
+    #[test]
+    fn a_run_starts_at_count_0_and_counts_what_is_not_refused() {
+        let mut start = State::new();
+        start.set_count(77);
+        let mut trace = Trace::new(start);
+        assert_eq!(trace.start(), &State::new());
+        // done, no-op, refused 2, 3 and 4, done
+        for (instruction, generation, operand) in [(14, 1, 0), (18, 1, 1 << 54), (14, 3, 0), (15, 1, 0), (18, 1, 1 << 27), (18, 2, 0)] {
+            trace.push(Record { instruction, generation, operand }).unwrap();
+        }
+        assert_eq!(trace.run().0.count(), 3);
+        assert_eq!(Trace::from_bytes(&trace.to_bytes()), Ok(trace));
     }
 
     #[test]

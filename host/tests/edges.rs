@@ -14,13 +14,20 @@ fn state(lanes: &[(Register, usize, Width, i64)]) -> State {
     state
 }
 
-/// The end state and answer of one step, after both programs have agreed on it.
+/// The end state and answer of one step with the serial due, after both programs have agreed on it.
 fn stepped(start: &State, call: Call) -> (State, Answer) {
     let (mut proved, mut second) = (start.clone(), start.clone());
-    let answer = step(&mut proved, call);
-    let number = reference::step(second.bytes_mut(), call.instruction, call.generation, call.operand);
+    let answer = step(&mut proved, call, start.count());
+    let number = reference::step(second.bytes_mut(), call.instruction, call.generation, call.operand, start.count());
     assert_eq!((answer.number(), &proved), (number, &second), "the two programs differ on {call:?}");
     (proved, answer)
+}
+
+/// The state of a step that changed the count alone.
+fn counted(start: &State) -> State {
+    let mut state = start.clone();
+    state.set_count(start.count() + 1);
+    state
 }
 
 const X: Register = Register::X(0);
@@ -64,7 +71,7 @@ fn matrix_lanes_go_to_their_places() -> Test {
     let (narrow, _) = stepped(&start, Call::mac16(M1, Mac16::new().z_row(7)?));
     assert_eq!(narrow.lane(Register::Z(11), 3, Bits16), 77);
     for state in [wide, narrow] {
-        assert_eq!(state.bytes()[1_024..].iter().filter(|&&byte| byte != 0).count(), 1);
+        assert_eq!(state.registers()[1_024..].iter().filter(|&&byte| byte != 0).count(), 1);
     }
     Ok(())
 }
@@ -130,7 +137,7 @@ fn a_quartet_takes_the_place_of_the_low_bits_of_z_row() -> Test {
     let fields = Vecint::new(0, Vectors::One)?.lane_widths(10)?.z_row(22)?;
     let (state, _) = stepped(&state(&[(X, 37, Bits8, 3), (Y, 37, Bits8, 5)]), Call::vecint(M1, fields));
     assert_eq!(state.lane(Register::Z(21), 9, Bits32), 15);
-    assert_eq!(state.bytes()[1_024..].iter().filter(|&&byte| byte != 0).count(), 1);
+    assert_eq!(state.registers()[1_024..].iter().filter(|&&byte| byte != 0).count(), 1);
     Ok(())
 }
 
@@ -166,7 +173,7 @@ fn widths_12_and_13_need_both_masks() -> Test {
 fn odd_lanes_of_widths_12_leave_row_1_to_others() -> Test {
     let odd = Call::vecint(M1, Vecint::new(0, Vectors::One)?.lane_widths(12)?.enable_value(1)?);
     let stored = Call::mac16(M1, Mac16::new().vector(true).skip_z(true).z_row(1)?);
-    let start = State::from_bytes(std::array::from_fn(|at| (at * 37 % 251) as u8));
+    let start = State::from_registers(std::array::from_fn(|at| (at * 37 % 251) as u8));
     let one = stepped(&stepped(&start, odd).0, stored).0;
     let other = stepped(&stepped(&start, stored).0, odd).0;
     assert!(one == other);
@@ -390,7 +397,7 @@ fn zeros_and_broadcast_lanes_come_after_the_indexed_load() -> Test {
 
 #[test]
 fn what_an_indexed_load_ignores_and_what_refuses_it() -> Test {
-    let start = State::from_bytes(std::array::from_fn(|at| (at * 37 % 251) as u8));
+    let start = State::from_registers(std::array::from_fn(|at| (at * 37 % 251) as u8));
     for generation in [M1, M2] {
         // whatever ALU mode its bits would be
         for fields in 0..64 {
@@ -407,7 +414,7 @@ fn what_an_indexed_load_ignores_and_what_refuses_it() -> Test {
             }
             for bit in 54..=56 {
                 let reserved = Call { operand: call.operand | 1 << bit | 1 << 27, ..call };
-                assert_eq!(stepped(&start, reserved), (start.clone(), Answer::NoOp(Reason::ReservedBits)));
+                assert_eq!(stepped(&start, reserved), (counted(&start), Answer::NoOp(Reason::ReservedBits)));
             }
         }
         // without bit 53, bit 52 is one of the ALU mode's

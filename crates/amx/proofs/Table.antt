@@ -2,22 +2,56 @@
 -- Assumes nothing.
 use mathlib.Core.Path.{_≡_, refl, sym, ap, _∙_, subst}
 use mathlib.Core.Bool.{Bool, true, false, cond}
-use mathlib.Core.List.{List, [], _∷_}
-use Prim.Native.Nat.{ℕ}
+use mathlib.Core.List.{List, [], _∷_, _++_}
+use Prim.Native.Nat.{ℕ, _+_, _<_}
+use native.Mathlib.Nat.{mod-eq-of-lt}
 use lib.Dec.{eqb}
-use lib.ListN.{length}
+use lib.ListN.{length, drop}
+use lib.Seq.{take-at}
 use borrow.Author.Tests.{eq-eqb}
-use Rattle.number.proofs.Tests.{pick-true, true-false}
+use Rattle.number.specs.Bytes.{span, byteAt, number}
+use Rattle.number.proofs.Tests.{pick-true}
 use Rattle.isa.specs.declared.Answer.{Answer}
 use Rattle.isa.specs.declared.Answer.the-variants.{Done, NoOp, Refused}
+use Rattle.isa.specs.State.{registersOf, countOf, lastCount, stateOf}
 use Rattle.isa.specs.Effect.{Effect, applied, bytesOn}
 use Rattle.isa.specs.Call.{Call, call, effectOf}
-use Rattle.isa.specs.Answers.{Row, rowsAbove, firstOf, answerOf, isDone}
+use Rattle.isa.specs.Answers.{Row, rowsAbove, firstOf, answerBy, answerOf, taken}
 use Rattle.isa.specs.Step.{stepped}
 use Rattle.isa.specs.Mac16.{mac16}
 use Rattle.isa.specs.Vecint.{vecint}
-use Rattle.isa.proofs.Lawful.{whole}
-use Rattle.isa.proofs.Step.{stepped-done, stepped-not}
+use Rattle.isa.proofs.Registers.{length-registers}
+use Rattle.isa.proofs.Applied.{length-applied}
+use Rattle.isa.proofs.Step.{met, stepped-as}
+
+-- the count, as it is read
+pub due-is : (s : List ℕ) (r : ℕ) → r ≡ number 8 (byteAt s) 5120 → r < span 8 → r ≡ countOf s
+unfolding countOf
+due-is s r e h = e ∙ sym (mod-eq-of-lt (subst (λ (x : ℕ). x < span 8) e h))
+
+-- ---- what is done, by the instruction
+
+-- an effect on the registers s, and the count of its bytes
+module _ (s t : List ℕ) (r : ℕ) where
+  abbrev By : Effect → Type 0
+  By e = (t ≡ cond (eqb (length s) 5120) (applied e s) s) × (r ≡ cond (eqb (length s) 5120) (bytesOn e) 0)
+
+  pub ran : (i gen op : ℕ) (b : Bool) → eqb i 14 ≡ b → By (cond b (mac16 op) (vecint gen op)) → By (effectOf (call i gen op))
+  ran i gen op b e = subst (λ (t : Bool). By (cond t (mac16 op) (vecint gen op))) (sym e)
+
+-- and then the count is raised to n
+pub done-as : (e : Effect) (s t u : List ℕ) (r n : ℕ) → length s ≡ 5128 → By (registersOf s) t r e → u ≡ stateOf (registersOf (t ++ drop 5120 s)) n
+    → (u ≡ stateOf (applied e (registersOf s)) n) × (r ≡ bytesOn e)
+done-as e s t u r n size h raise =
+    let whole : length (registersOf s) ≡ 5120 = length-registers s size in
+    let is : eqb (length (registersOf s)) 5120 ≡ true = eq-eqb (length (registersOf s)) 5120 whole in
+    let new : t ≡ applied e (registersOf s) = h .0 ∙ pick-true _ _ is in
+    let same : length t ≡ 5120 = ap length new ∙ length-applied e (registersOf s) ∙ whole in (
+      raise ∙ ap (λ (l : List ℕ). stateOf l n) (take-at t (drop 5120 s) 5120 same ∙ new),
+      h .1 ∙ pick-true _ _ is,
+    )
+
+-- ---- the answer
 
 -- an answer with another count, where it is done
 abbrev counted : Answer → ℕ → Answer
@@ -39,50 +73,52 @@ recounted (r ∷ rows) h m n = picked (r .applies) (recounted rows (h .1) m n)
     picked true rest = h .0 n
     picked false rest = rest
 
-not-counted : (b : Answer) (n : ℕ) → isDone b ≡ false → counted b n ≡ b
-not-counted (Done m) n e = absurd (true-false e)
-not-counted (NoOp r) n e = refl
-not-counted (Refused r) n e = refl
+counted-taken : (b : Answer) (n : ℕ) → taken (counted b n) ≡ taken b
+counted-taken (Done m) n = refl
+counted-taken (NoOp r) n = refl
+counted-taken (Refused r) n = refl
 
--- a is what the table gives with a count of 0; b is what is made of it
-module _ (i gen op : ℕ) (s : List ℕ) (a b : Answer) (ea : a ≡ firstOf (rowsAbove (length s) (call i gen op)) (Done 0)) (eb : a ≡ b) where
+-- ---- the step: a is what the table gives with 0 bytes, for the count that was read; b is what is made of it
+
+module _ (i gen op serial : ℕ) (s : List ℕ) (count : ℕ) (read : count ≡ countOf s) (a b : Answer)
+    (ea : a ≡ firstOf (rowsAbove (length s) count serial (call i gen op)) (Done 0)) (eb : a ≡ b) where
   abbrev c : Call
   c = call i gen op
 
   abbrev bytes : ℕ
   bytes = bytesOn (effectOf c)
 
-  answer-is : answerOf (length s) c ≡ counted b bytes
-  unfolding answerOf
+  answer-is : answerOf s c serial ≡ counted b bytes
+  unfolding answerBy
   answer-is =
-      let none : NoneDone (rowsAbove (length s) c) =
-      ((λ n. refl), ((λ n. refl), ((λ n. refl), ((λ n. refl), ((λ n. refl), ((λ n. refl), ((λ n. refl), tt)))))))
+      let none : NoneDone (rowsAbove (length s) count serial c) =
+      ((λ n. refl), ((λ n. refl), ((λ n. refl), ((λ n. refl), ((λ n. refl), ((λ n. refl), ((λ n. refl), ((λ n. refl), ((λ n. refl), tt)))))))))
       in
-      sym (recounted (rowsAbove (length s) c) none 0 bytes) ∙ ap (λ (x : Answer). counted x bytes) (sym ea ∙ eb)
+      ap (λ (k : ℕ). firstOf (rowsAbove (length s) k serial c) (Done bytes)) (sym read)
+      ∙ sym (recounted (rowsAbove (length s) count serial c) none 0 bytes)
+      ∙ ap (λ (x : Answer). counted x bytes) (sym ea ∙ eb)
 
-  pub step-not : isDone b ≡ false → (s ≡ stepped c s) × (b ≡ answerOf (length s) c)
-  step-not e =
-      let is : answerOf (length s) c ≡ b = answer-is ∙ not-counted b bytes e in
-      (sym (stepped-not c s (ap isDone is ∙ e)), sym is)
+  -- a step that is taken has a state of the right length, below its last count
+  pub step-needs : taken b ≡ true → (length s ≡ 5128) × (count < lastCount)
+  step-needs t =
+      let had = met c serial s (ap taken answer-is ∙ counted-taken b bytes ∙ t) in
+      (had .size, subst (λ (k : ℕ). k < lastCount) (sym read) (had .room))
 
-  pub step-done : (m r : ℕ) (t : List ℕ) → b ≡ Done m
-      → t ≡ cond (eqb (length s) 5120) (applied (effectOf c) s) s → r ≡ cond (eqb (length s) 5120) bytes 0
-      → (t ≡ stepped c s) × (Done r ≡ answerOf (length s) c)
+  pub step-done : (m r : ℕ) (t : List ℕ) → b ≡ Done m → t ≡ stateOf (applied (effectOf c) (registersOf s)) (count + 1) → r ≡ bytes
+      → (t ≡ stepped c serial s) × (Done r ≡ answerOf s c serial)
   step-done m r t e et er =
-      let is : answerOf (length s) c ≡ Done bytes = answer-is ∙ ap (λ (x : Answer). counted x bytes) e in
-      let size : eqb (length s) 5120 ≡ true = eq-eqb (length s) 5120 (whole (length s) c (ap isDone is)) in (
-        et ∙ pick-true _ _ size ∙ sym (stepped-done c s (ap isDone is)),
-        ap Done (er ∙ pick-true _ _ size) ∙ sym is,
+      let is : answerOf s c serial ≡ Done bytes = answer-is ∙ ap (λ (x : Answer). counted x bytes) e in (
+        et ∙ ap (λ (k : ℕ). stateOf (applied (effectOf c) (registersOf s)) (k + 1)) read ∙ sym (stepped-as c serial s (Done bytes) is),
+        ap Done er ∙ sym is,
       )
 
--- what is done, by the instruction
-module _ (i gen op : ℕ) (s t : List ℕ) (r : ℕ) where
-  -- an effect, and the count of its bytes
-  abbrev By : Effect → Type 0
-  By e = (t ≡ cond (eqb (length s) 5120) (applied e s) s) × (r ≡ cond (eqb (length s) 5120) (bytesOn e) 0)
+  pub step-no-op : (r : _) (t : List ℕ) → b ≡ NoOp r → t ≡ stateOf (registersOf s) (count + 1)
+      → (t ≡ stepped c serial s) × (NoOp r ≡ answerOf s c serial)
+  step-no-op r t e et =
+      let is : answerOf s c serial ≡ NoOp r = answer-is ∙ ap (λ (x : Answer). counted x bytes) e in
+      (et ∙ ap (λ (k : ℕ). stateOf (registersOf s) (k + 1)) read ∙ sym (stepped-as c serial s (NoOp r) is), sym is)
 
-  abbrev Ran : Type 0
-  Ran = By (effectOf (call i gen op))
-
-  pub ran : (b : Bool) → eqb i 14 ≡ b → By (cond b (mac16 op) (vecint gen op)) → Ran
-  ran b e = subst (λ (t : Bool). By (cond t (mac16 op) (vecint gen op))) (sym e)
+  pub step-refused : (r : _) → b ≡ Refused r → (s ≡ stepped c serial s) × (Refused r ≡ answerOf s c serial)
+  step-refused r e =
+      let is : answerOf s c serial ≡ Refused r = answer-is ∙ ap (λ (x : Answer). counted x bytes) e in
+      (sym (stepped-as c serial s (Refused r) is), sym is)

@@ -12,11 +12,11 @@ use Rattle.isa.specs.declared.Reason.the-variants.{ReservedBits, ReservedMode, 
 use Rattle.isa.specs.declared.Refusal.the-variants as refusal
 use Rattle.isa.specs.declared.Answer.{Answer}
 use Rattle.isa.specs.declared.Answer.the-variants.{Done, NoOp, Refused}
-use Rattle.isa.specs.State.{stateLength}
+use Rattle.isa.specs.State.{stateLength, lastCount}
 use Rattle.isa.specs.Effect.{bytesOn}
 use Rattle.isa.specs.Vecint as Vecint
 use Rattle.isa.specs.Call.{call, effectOf}
-use Rattle.isa.specs.Answers.{Row, reservedBits, reservedMode, laterMode, notCovered, vecintRows, onlyIf, rowsAbove, firstOf, answerOf}
+use Rattle.isa.specs.Answers.{Row, reservedBits, reservedMode, laterMode, notCovered, vecintRows, onlyIf, serialRows, rowsAbove, ownRows, firstOf, ownAnswer}
 use Rattle.isa.specs.Normal.{normalOperand, normalOf, instead}
 
 -- ---- modes
@@ -89,9 +89,9 @@ other-is true b e f = absurd (true-false f)
 other-is false true e f = refl
 other-is false false e f = absurd (true-false e)
 
-module _ (n i gen op : ℕ) where
+module _ (n count serial i gen op : ℕ) where
   abbrev pub Given : Answer
-  Given = firstOf (rowsAbove n (call i gen op)) (Done 0)
+  Given = firstOf (rowsAbove n count serial (call i gen op)) (Done 0)
 
   abbrev unknown : Bool
   unknown = not (eqb gen 1 || eqb gen 2)
@@ -99,24 +99,42 @@ module _ (n i gen op : ℕ) where
   abbrev neither : Bool
   neither = not (eqb i 14 || eqb i 18)
 
-  pub first-length : (n ≡ 5120 → ⊥) → Refused refusal.StateLength ≡ Given
-  first-length e = sym (pick-true _ _ (ap not (ne-eqb n 5120 e)))
+  -- from the row of the last count on
+  abbrev fromCount : Answer
+  fromCount = firstOf (serialRows count serial) (rowsIf gen op (eqb i 18))
 
-  past-length : n ≡ 5120 → Given ≡ cond unknown (Refused refusal.Generation) (cond neither (Refused refusal.Instruction) (rowsIf gen op (eqb i 18)))
-  past-length e = pick-false _ _ (ap not (eq-eqb n 5120 e))
+  pub first-length : (n ≡ 5128 → ⊥) → Refused refusal.StateLength ≡ Given
+  first-length e = sym (pick-true _ _ (ap not (ne-eqb n 5128 e)))
 
-  pub first-generation : n ≡ 5120 → unknown ≡ true → Refused refusal.Generation ≡ Given
-  first-generation e f = sym (past-length e ∙ pick-true _ _ f)
+  module _ (size : n ≡ 5128) where
+    past-length : Given ≡ cond unknown (Refused refusal.Generation) (cond neither (Refused refusal.Instruction) fromCount)
+    past-length = pick-false _ _ (ap not (eq-eqb n 5128 size))
 
-  pub first-instruction : n ≡ 5120 → unknown ≡ false → neither ≡ true → Refused refusal.Instruction ≡ Given
-  first-instruction e f g = sym (past-length e ∙ pick-false _ _ f ∙ pick-true _ _ g)
+    pub first-generation : unknown ≡ true → Refused refusal.Generation ≡ Given
+    first-generation f = sym (past-length ∙ pick-true _ _ f)
 
-  pub first-mac16 : n ≡ 5120 → unknown ≡ false → neither ≡ false → i ≡ 14 → Done 0 ≡ Given
-  first-mac16 e f g h = sym (past-length e ∙ pick-false _ _ f ∙ pick-false _ _ g ∙ ap (λ (k : ℕ). rowsIf gen op (eqb k 18)) h)
+    pub first-instruction : unknown ≡ false → neither ≡ true → Refused refusal.Instruction ≡ Given
+    first-instruction f g = sym (past-length ∙ pick-false _ _ f ∙ pick-true _ _ g)
 
-  pub first-vecint : n ≡ 5120 → unknown ≡ false → neither ≡ false → (i ≡ 14 → ⊥) → vecintAnswer gen op ≡ Given
-  first-vecint e f g h =
-      sym (past-length e ∙ pick-false _ _ f ∙ pick-false _ _ g ∙ ap (rowsIf gen op) (other-is (eqb i 14) (eqb i 18) g (ne-eqb i 14 h)))
+    module _ (f : unknown ≡ false) (g : neither ≡ false) where
+      past-known : Given ≡ fromCount
+      past-known = past-length ∙ pick-false _ _ f ∙ pick-false _ _ g
+
+      pub first-last : count ≡ lastCount → Refused refusal.LastCount ≡ Given
+      first-last e = sym (past-known ∙ pick-true _ _ (eq-eqb count lastCount e))
+
+      pub first-serial : (count ≡ lastCount → ⊥) → (serial ≡ count → ⊥) → Refused refusal.Serial ≡ Given
+      first-serial d e = sym (past-known ∙ pick-false _ _ (ne-eqb count lastCount d) ∙ pick-true _ _ (ap not (ne-eqb serial count e)))
+
+      module _ (below : count ≡ lastCount → ⊥) (due : serial ≡ count) where
+        past-serial : Given ≡ rowsIf gen op (eqb i 18)
+        past-serial = past-known ∙ pick-false _ _ (ne-eqb count lastCount below) ∙ pick-false _ _ (ap not (eq-eqb serial count due))
+
+        pub first-mac16 : i ≡ 14 → Done 0 ≡ Given
+        first-mac16 h = sym (past-serial ∙ ap (λ (k : ℕ). rowsIf gen op (eqb k 18)) h)
+
+        pub first-vecint : (i ≡ 14 → ⊥) → vecintAnswer gen op ≡ Given
+        first-vecint h = sym (past-serial ∙ ap (rowsIf gen op) (other-is (eqb i 14) (eqb i 18) g (ne-eqb i 14 h)))
 
 -- ---- what the normal operand is answered
 
@@ -129,10 +147,10 @@ any-count (r ∷ rows) m n op = picked (firstOf rows (Done m)) (firstOf rows (Do
     picked a b true e = refl
     picked a b false e = e
 
--- a is what the table gives; b is what is made of it
-pub normal-by : (i gen op : ℕ) (a b : Answer) → a ≡ Given stateLength i gen op → a ≡ b
+-- a is what the table gives for the first step on a state, which neither the state nor the serial refuses; b is what is made of it
+pub normal-by : (i gen op : ℕ) (a b : Answer) → a ≡ Given stateLength 0 0 i gen op → a ≡ b
     → instead b (normalOperand (call i gen op)) ≡ normalOf (call i gen op)
-unfolding normalOf answerOf
+unfolding normalOf ownAnswer
 normal-by i gen op a b e f =
     ap (λ (x : Answer). instead x (normalOperand (call i gen op))) (sym f ∙ e)
-    ∙ any-count (rowsAbove stateLength (call i gen op)) 0 (bytesOn (effectOf (call i gen op))) (normalOperand (call i gen op))
+    ∙ any-count (ownRows (call i gen op)) 0 (bytesOn (effectOf (call i gen op))) (normalOperand (call i gen op))

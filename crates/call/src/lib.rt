@@ -76,11 +76,18 @@ fn vecint_answered(generation: u64, op: u64) -> isa::Answer
     isa::Answer::Done { bytes: 0 }
 }
 
-// The first row of the table that applies, for a state of so many bytes; a count of 0 where the step is done.
-pub fn answered(length: usize, instruction: u64, generation: u64, operand: u64) -> isa::Answer
-    ensures { λ r. ⌜ r ≡ firstOf (rowsAbove length (call instruction generation operand)) (Done 0) ⌝ }
+// The first row of the table that applies, for a state of so many bytes with this count; 0 bytes where the step is done.
+pub fn answered(
+    length: usize,
+    count: u64,
+    instruction: u64,
+    generation: u64,
+    operand: u64,
+    serial: u64,
+) -> isa::Answer
+    ensures { λ r. ⌜ r ≡ firstOf (rowsAbove length count serial (call instruction generation operand)) (Done 0) ⌝ }
 {
-    if length != 5120 {
+    if length != 5128 {
         return isa::Answer::Refused(isa::Refusal::StateLength);
     }
     if neither(generation, 1, 2) {
@@ -88,6 +95,12 @@ pub fn answered(length: usize, instruction: u64, generation: u64, operand: u64) 
     }
     if neither(instruction, 14, 18) {
         return isa::Answer::Refused(isa::Refusal::Instruction);
+    }
+    if count == 18_446_744_073_709_551_615 {
+        return isa::Answer::Refused(isa::Refusal::LastCount);
+    }
+    if serial != count {
+        return isa::Answer::Refused(isa::Refusal::Serial);
     }
     if instruction == 14 {
         return isa::Answer::Done { bytes: 0 };
@@ -212,11 +225,11 @@ fn normal_operand(instruction: u64, generation: u64, op: u64) -> u64
     vecint_operand(generation, op)
 }
 
-// The operand with its ignored bits cleared, or the step's own answer where the step isn't done.
+// The operand with its ignored bits cleared, or the step's own answer where the step isn't done: that of the first step on a state.
 pub fn normal(instruction: u64, generation: u64, operand: u64) -> isa::Normal
     ensures { λ r. ⌜ r ≡ normalOf (call instruction generation operand) ⌝ }
 {
-    match answered(5120, instruction, generation, operand) {
+    match answered(5128, 0, instruction, generation, operand, 0) {
         isa::Answer::Done { bytes: _ } => isa::Normal::Operand(normal_operand(
             instruction,
             generation,

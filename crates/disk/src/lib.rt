@@ -72,7 +72,7 @@ fn text_of(file: &[u8], out: &mut [u8; 131_072]) -> usize
     ensures { λ r. ⌜ take r (now (out .exit)) ≡ textOf (now (file .entry)) ⌝ }
     ensures inside { λ r. ⌜ Counts r (now (out .exit)) ⌝ }
 {
-    let mut state = [0u8; 5120];
+    let mut state = [0u8; 5128];
     let printed = trace::print(file, &mut state, out);
     match printed {
         trace::Printed::Text(n) => n,

@@ -9,7 +9,7 @@ use lib.Dec.{eqb, leb}
 use lib.ListN.{length}
 use Rattle.number.specs.Bytes.{byteAt, number}
 use Rattle.number.proofs.Tests.{and-left, and-right}
-use Rattle.isa.specs.State.{stateLength}
+use Rattle.isa.specs.State.{registerBytes}
 use Rattle.file.specs.File.{contentsLength, stepsBase, stepBytes, mostSteps, stepAt, entryIs, stepCount, contentsRight}
 
 -- n is the number m that a file holds: whether m is k, by n
@@ -53,7 +53,7 @@ module _ (file : List ℕ) where
   counted = eqb (number 4 (byteAt file) 0) 2
 
   abbrev first : Bool
-  first = entryIs file 4 1 contentsLength stateLength
+  first = entryIs file 4 1 contentsLength registerBytes
 
   abbrev second : Bool
   second = entryIs file 16 2 stepsBase (stepBytes * stepCount file)

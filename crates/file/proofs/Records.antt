@@ -3,26 +3,25 @@
 use mathlib.Core.Path.{_≡_, sym, ap, _∙_}
 use mathlib.Core.Bool.{true, false, _&&_}
 use mathlib.Core.List.{List}
-use Prim.Native.Nat.{ℕ, _+_, _*_, _≤_, _<_}
+use Prim.Native.Nat.{ℕ, _+_, _≤_, _<_}
 use native.Mathlib.Nat.{zero-add}
 use native.Mathlib.Omega.{arith}
 use borrow.Author.Tests.{lt-ltb, le-ltb, eq-eqb, ne-eqb, le-leb, lt-leb}
 use lib.Dec.{eqb, leb, ltb}
 use lib.ListN.{length, getD}
-use Rattle.number.specs.Bytes.{byteAt, number}
+use lib.Seq.{sets}
+use Rattle.number.specs.Bytes.{byteAt, bytesOf}
 use Rattle.number.proofs.Tests.{pick-true, pick-false}
 use Rattle.number.proofs.Bytes.{length-table, getD-table}
-use Rattle.number.proofs.Slice.{number-add}
-use Rattle.isa.specs.State.{stateLength}
+use Rattle.number.proofs.Fill.{Filled, fill-front}
+use Rattle.isa.specs.State.{registerBytes, stateLength, registersOf, countOf, stateOf}
 use Rattle.isa.specs.Call.{Call, call}
+use Rattle.isa.proofs.Registers.{length-state, byte-state, count-state, count-stored}
 use Rattle.file.specs.declared.Record.{Record}
 use Rattle.file.specs.declared.Read.the-variants as read
-use Rattle.file.specs.File.{stepsBase, mostSteps, callAt, calls, startOf, cursor, recordOf, readAs, loadedFrom}
+use Rattle.file.specs.File.{stepsBase, mostSteps, callAt, calls, registersIn, startOf, cursor, recordOf, readAs, loadedFrom}
 
--- ---- bytes as numbers
-
-pub two-quartets : (f : ℕ → ℕ) (p a b : ℕ) → a ≡ number 4 f p → b ≡ number 4 f (p + 4) → a + 4294967296 * b ≡ number 8 f p
-two-quartets f p a b ea eb = omega (arith, ea, eb, number-add 4 4 f p)
+-- ---- a call as code holds it
 
 pub record-same : {i g op : ℕ} {c : Call} → i ≡ c .instruction → g ≡ c .generation → op ≡ c .operand → recordOf (call i g op) ≡ recordOf c
 record-same a b d = λ t. recordOf (call (a t) (b t) (d t))
@@ -55,8 +54,20 @@ module _ (file : List ℕ) where
   pub calls-at : (d : Call) (n i : ℕ) → i < n → getD (calls file n) i d ≡ callAt file i
   calls-at d n i h = getD-table (callAt file) d 0 n i h ∙ ap (callAt file) (zero-add i)
 
+  length-in : length (registersIn file) ≡ registerBytes
+  length-in = length-table (λ k. byteAt file (28 + k)) 0 registerBytes
+
   pub length-start : length (startOf file) ≡ stateLength
-  length-start = length-table (λ k. byteAt file (28 + k)) 0 stateLength
+  length-start = length-state (registersIn file) 0 length-in
+
+  pub count-start : countOf (startOf file) ≡ 0
+  count-start = count-state (registersIn file) 0 length-in
+
+  pub start-byte : (p : ℕ) → p < registerBytes → byteAt (startOf file) p ≡ byteAt file (28 + p)
+  start-byte p h =
+      byte-state (registersIn file) 0 length-in p h
+      ∙ getD-table (λ k. byteAt file (28 + k)) 0 0 registerBytes p h
+      ∙ ap (λ (k : ℕ). byteAt file (28 + k)) (zero-add p)
 
 -- ---- loading, by the branches of the code
 
@@ -78,3 +89,10 @@ module _ (file state : List ℕ) where
       let yes : eqb (length state) stateLength && leb stepsBase (length file) ≡ true =
       (λ t. eq-eqb (length state) stateLength e t && le-leb stepsBase (length file) h t)
       in sym (pick-true _ _ yes)
+
+  -- a state whose registers were filled, and then a count of 0
+  pub start-stored : length state ≡ stateLength → (i : ℕ) → registerBytes ≤ i → Filled 0 (λ k. byteAt file (28 + k)) state i
+      → sets state 5120 (bytesOf 8 0) ≡ startOf file
+  start-stored size i past fill =
+      let front : registersOf state ≡ registersIn file = fill-front 0 (λ k. byteAt file (28 + k)) 5120 i state (omega (arith, size)) past fill in
+      count-stored state 0 size ∙ ap (λ (r : List ℕ). stateOf r 0) front

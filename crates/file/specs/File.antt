@@ -6,7 +6,7 @@ use Prim.Native.Nat.{ℕ, zero, suc, _+_, _*_, _/_}
 use lib.Dec.{eqb, leb, ltb}
 use lib.ListN.{length}
 use Rattle.number.specs.Bytes.{byteAt, number, table}
-use Rattle.isa.specs.State.{stateLength}
+use Rattle.isa.specs.State.{registerBytes, stateLength, stateOf}
 use Rattle.isa.specs.Call.{Call, call}
 use Rattle.file.specs.declared.FileRefusal.{FileRefusal}
 use Rattle.file.specs.declared.FileRefusal.the-variants.{Short, Contents, Padding}
@@ -61,7 +61,7 @@ stepCount file = number 4 (byteAt file) 24 / stepBytes
 unfoldable pub contentsRight : List ℕ → Bool
 contentsRight file =
     eqb (number 4 (byteAt file) 0) 2
-    && entryIs file 4 1 contentsLength stateLength
+    && entryIs file 4 1 contentsLength registerBytes
     && entryIs file 16 2 stepsBase (stepBytes * stepCount file)
     && leb (stepCount file) mostSteps
     && eqb (length file) (stepAt (stepCount file))
@@ -102,9 +102,13 @@ callAt file i = call (byteAt file (stepAt i)) (byteAt file (stepAt i + 1)) (numb
 abbrev pub calls : List ℕ → ℕ → List Call
 calls file n = table (callAt file) 0 n
 
--- the starting state
+-- "trace sections keep 5,120 register bytes"
+abbrev pub registersIn : List ℕ → List ℕ
+registersIn file = table (λ k. byteAt file (contentsLength + k)) 0 registerBytes
+
+-- the starting state: "a run starts at 0"
 abbrev pub startOf : List ℕ → List ℕ
-startOf file = table (λ k. byteAt file (contentsLength + k)) 0 stateLength
+startOf file = stateOf (registersIn file) 0
 
 -- ---- reading step by step
 

@@ -1,8 +1,8 @@
 // Trace files, read from lent bytes. Every function open to callers takes every argument.
 ghost use mathlib.Core.Path.{_≡_};
 ghost use Prim.Native.Nat.{_≤_, _<_};
-ghost use Rattle.number.specs.Bytes.{byteAt, number};
-ghost use Rattle.file.specs.File.{fileRefusalNumber, entryIs, stepCount, contentsRight, paddingClear, paddingsClear, openedAs, callAt, recordOf, readAs, loadedFrom};
+ghost use Rattle.file.specs.File.{fileRefusalNumber, entryIs, stepCount, contentsRight, paddingClear, paddingsClear, openedAs};
+ghost use Rattle.file.specs.File.{callAt, recordOf, readAs, loadedFrom};
 
 // Why a file is refused.
 pub enum FileRefusal {
@@ -136,19 +136,6 @@ pub fn open(file: &[u8]) -> Opened
 
 // ---- reading
 
-fn wide32(n: u32) -> u64
-    ensures { λ r. ⌜ (r ≡ n) × (r < 4294967296) ⌝ }
-{
-    n as u64
-}
-
-fn get64(file: &[u8], at: usize) -> u64
-    requires { ⌜ at < 65536 ⌝ }
-    ensures { λ r. ⌜ r ≡ number 8 (byteAt (now (file .entry))) at ⌝ }
-{
-    wide32(number::get32(file, at)) + 4_294_967_296 * wide32(number::get32(file, at + 4))
-}
-
 fn record_at(file: &[u8], i: usize) -> Record
     requires { ⌜ i < 2048 ⌝ }
     ensures { λ r. ⌜ r ≡ recordOf (callAt (now (file .entry)) i) ⌝ }
@@ -157,7 +144,7 @@ fn record_at(file: &[u8], i: usize) -> Record
     Record {
         instruction: number::get8(file, at) as u64,
         generation: number::get8(file, at + 1) as u64,
-        operand: get64(file, at + 8),
+        operand: number::get64(file, at + 8),
     }
 }
 
@@ -185,11 +172,11 @@ pub fn read_record(file: &[u8], cursor: Cursor) -> Read
 
 // ---- the starting state
 
-// A state of another length, and a file with no whole starting state, change nothing.
+// The registers from the file, and a count of 0. A state of another length, and a file without all of the registers, change nothing.
 pub fn load_state(file: &[u8], state: &mut [u8])
     ensures { λ _. ⌜ now (state .exit) ≡ loadedFrom (now (file .entry)) (now (state .entry)) ⌝ }
 {
-    if state.len() != 5120 {
+    if state.len() != 5128 {
         return;
     }
     if file.len() < 5148 {
@@ -198,4 +185,5 @@ pub fn load_state(file: &[u8], state: &mut [u8])
     for i in 0..5120 {
         state[i] = file[28 + i];
     }
+    number::put64(state, 5120, 0);
 }

@@ -11,10 +11,10 @@ use lib.Dec.{eqb}
 use lib.ListN.{length}
 use borrow.Author.Tests.{ne-eqb, eqb-true, eqb-false}
 use Rattle.isa.specs.declared.Answer.the-variants.{Done}
-use Rattle.isa.specs.State.{lanesOf, start}
+use Rattle.isa.specs.State.{lanesOf, start, countOf}
 use Rattle.isa.specs.Effect.{Effect, touches, sum, count, bytesOn, lanesOn, Fills}
 use Rattle.isa.specs.Call.{Call, effectOf}
-use Rattle.isa.specs.Answers.{Row, rowsAbove, firstOf, answerOf, isDone}
+use Rattle.isa.specs.Answers.{Row, rowsAbove, firstOf, answerBy, isDone}
 use Rattle.isa.specs.Demands.{DoneCounted}
 use Rattle.number.proofs.Tests.{true-false, two, either, pick-true, pick-false, lt-or-le}
 use Rattle.isa.proofs.Place.{lanes-fill, start-row, start-lane, start-in}
@@ -172,14 +172,14 @@ last-row (r ∷ rs) m n a e =
     (λ t. absurd (true-false (sym (ap isDone (sym (pick-true (r .answer) (firstOf rs (Done m)) t) ∙ e)) ∙ a .0)))
     (λ t. last-row rs m n (a .1) (sym (pick-false (r .answer) (firstOf rs (Done m)) t) ∙ e))
 
-done-bytes : (c : Call) (size n : ℕ) → answerOf size c ≡ Done n → n ≡ bytesOn (effectOf c)
-unfolding answerOf Above
-done-bytes c size n e =
-    last-row (rowsAbove size c) (bytesOn (effectOf c)) n (refl, (refl, (refl, (refl, (refl, (refl, (refl, tt))))))) e
+done-bytes : (c : Call) (size count serial n : ℕ) → answerBy size count serial c ≡ Done n → n ≡ bytesOn (effectOf c)
+unfolding answerBy Above
+done-bytes c size count serial n e =
+    last-row (rowsAbove size count serial c) (bytesOn (effectOf c)) n (refl, (refl, (refl, (refl, (refl, (refl, (refl, (refl, (refl, tt))))))))) e
 
 pub done-counted : DoneCounted
-done-counted c s n e =
-    let bytes : n ≡ bytesOn (effectOf c) = done-bytes c (length s) n e in
+done-counted c serial s n e =
+    let bytes : n ≡ bytesOn (effectOf c) = done-bytes c (length s) (countOf s) serial n e in
     record {
       bytes = bytes;
       lanes = bytes ∙ bytes-lanes (effectOf c) (fills c .0) (fills c .1);

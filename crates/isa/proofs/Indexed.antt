@@ -18,11 +18,12 @@ use Rattle.isa.specs.State.{xBase, yBase, loaded}
 use Rattle.isa.specs.Effect.{bytesOn}
 use Rattle.isa.specs.Vecint as Vecint
 use Rattle.isa.specs.Call.{call, effectOf}
-use Rattle.isa.specs.Answers.{reservedMode, laterMode, vecintRows, firstOf, answerOf}
+use Rattle.isa.specs.Answers.{reservedMode, laterMode, vecintRows, firstOf, ownAnswer}
 use Rattle.isa.specs.Edges.{Edge}
 use Rattle.isa.specs.Guards.{Pin}
 use Rattle.isa.specs.Indexed.{bytePins, offsetPins, OneSide, InRegister, IndexedDone, IndexedAdds, IndexedSwap, PlainLoadStays}
 use Rattle.number.proofs.Tests.{pick-true, pick-false}
+use Rattle.isa.proofs.Guards.{adding}
 
 -- ---- bytes and offsets
 
@@ -66,7 +67,7 @@ unfolding Vecint.mode
 mode-0 op e = pick-true _ _ e
 
 pub indexed-done : IndexedDone
-unfolding answerOf
+unfolding ownAnswer
 indexed-done gen op known e reserved shuffles = go known
   where
     m : Vecint.mode op ≡ 0
@@ -93,8 +94,8 @@ pub indexed-adds : IndexedAdds
 indexed-adds gen op e kept = λ t. Vecint.addingMode (mode-0 op e t) && not (kept t)
 
 pub indexed-swap : IndexedSwap
-unfolding bits answerOf Vecint.mode Vecint.widthsBy Vecint.widths Vecint.zWidth Vecint.overrides
-indexed-swap = (inr (record { first = tt; second = tt; one-width = refl }), tt)
+unfolding bits ownAnswer Vecint.mode Vecint.widthsBy Vecint.widths Vecint.zWidth Vecint.overrides
+indexed-swap s size left = ((left, inr (adding s _ _ size (omega (arith, left size)) refl refl refl)), tt)
 
 -- ---- nothing else moved
 

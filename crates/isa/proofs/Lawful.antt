@@ -10,27 +10,12 @@ use lib.IntN.{ℤ, negℤ, _+ℤ_, _*ℤ_}
 use Rattle.number.specs.Bytes.{span}
 use Rattle.number.specs.Integers.{signed, wrap, _≫_}
 use Rattle.number.proofs.Modular.{adds-modulo}
-use Rattle.isa.specs.declared.Answer.{Answer}
-use Rattle.isa.specs.declared.Answer.the-variants.{Refused}
-use Rattle.isa.specs.declared.Refusal.the-variants.{StateLength}
 use Rattle.isa.specs.Operand.{bits, bit}
 use Rattle.isa.specs.Effect.{Effect, Fills, OnlyAdds}
 use Rattle.isa.specs.Mac16 as Mac16
 use Rattle.isa.specs.Vecint as Vecint
 use Rattle.isa.specs.Call.{Call, isMac16, effectOf}
-use Rattle.isa.specs.Answers.{answerOf, isDone}
-use Rattle.isa.specs.Step.{done}
 use Rattle.number.proofs.Tests.{true-false, is-false, and-left, and-right, pick-false, either}
-
--- ---- only a state of 5,120 bytes has done calls
-
-first-row : (b : Bool) (a : Answer) → isDone (cond (not b) (Refused StateLength) a) ≡ true → b ≡ true
-first-row true a t = refl
-first-row false a t = t
-
-pub whole : (n : ℕ) (c : Call) → done n c ≡ true → n ≡ 5120
-unfolding answerOf
-whole n c t = eqb-true n 5120 (first-row (eqb n 5120) _ t)
 
 -- ---- widths
 

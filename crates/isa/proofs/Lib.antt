@@ -2,8 +2,10 @@ pub mod Place
 pub mod Applied
 pub mod Commute
 pub mod Lawful
+pub mod Registers
 pub mod Step
 pub mod Rearranged
+pub mod Twice
 pub mod Count
 pub mod Clear
 pub mod NormalMac16
@@ -14,3 +16,4 @@ pub mod Edges
 pub mod Guards
 pub mod MixedWidths
 pub mod Indexed
+pub mod Serials

@@ -16,13 +16,16 @@ use Rattle.isa.specs.Effect.{touches, sum, lanesOn}
 use Rattle.isa.specs.Enable.{mac16Enables, vecintEnables}
 use Rattle.isa.specs.Mac16 as Mac16
 use Rattle.isa.specs.Vecint as Vecint
-use Rattle.isa.specs.Answers.{answerOf}
+use Rattle.isa.specs.Call.{effectOf}
+use Rattle.isa.specs.Answers.{ownAnswer, isDone}
+use Rattle.isa.specs.Step.{done}
 use Rattle.isa.specs.Edges.{Edge}
 use Rattle.isa.specs.Guards.{Pin}
 use Rattle.isa.specs.MixedWidths.{maskedByX, EqualWidthsStay, mixed, OnlyMixedDiffer, lanePins, countPins}
-use Rattle.isa.specs.MixedWidths.{oddLanes, OddAnswered, storedProduct, SwapAllowed, NoSwapByX}
+use Rattle.isa.specs.MixedWidths.{oddLanes, OddAnswered, storedProduct, SwapAllowed, NoSwapBefore}
 use Rattle.number.proofs.Tests.{true-false, two, either, and-left, and-right, pick-true, pick-false}
 use Rattle.isa.proofs.Places.{vecint-only}
+use Rattle.isa.proofs.Step.{own-due}
 use Rattle.isa.proofs.Guards.{by-lanes, InRow, apart-rows, vector-row}
 
 -- ---- lanes
@@ -113,9 +116,14 @@ unfolding bits
 product-row row lane t = omega (arith, vector-row (storedProduct .operand) refl row lane t)
 
 pub swap-allowed : SwapAllowed
-swap-allowed = (inl (apart-rows 5120 oddLanes storedProduct 3 1 odd-row product-row (λ e. omega (arith, e))), tt)
+swap-allowed s left = ((left, inl (apart-rows s oddLanes storedProduct 3 1 odd-row product-row (λ e. omega (arith, e)))), tt)
 
-pub no-swap-by-x : NoSwapByX
-unfolding bits touches maskedByX mac16Enables vecintEnables answerOf Mac16.on
+pub no-swap-before : NoSwapBefore
+unfolding bits touches maskedByX mac16Enables vecintEnables ownAnswer Mac16.on
     Vecint.mode Vecint.widthsBy Vecint.widths Vecint.zWidth Vecint.rowsEach Vecint.stride Vecint.kOf Vecint.writes
-no-swap-by-x = record { first = refl; second = refl; not-adding = refl }
+no-swap-before s size left =
+    let own : done s storedProduct ≡ true = ap isDone (own-due storedProduct s size (omega (arith, left size))) in record {
+      first = refl;
+      second = ap (λ (b : Bool). b && touches (effectOf storedProduct) 1088) own;
+      not-adding = ap (λ (b : Bool). b && effectOf storedProduct .adds) own;
+    }

@@ -1,27 +1,33 @@
 -- The normal operand gives the operand's answers and states, and is its own normal operand.
 -- Assumes nothing.
 use mathlib.Core.Path.{_≡_, refl, sym, ap, ap₂, _∙_, subst}
-use mathlib.Core.Bool.{Bool, true, false, cond, not, _&&_}
+use mathlib.Core.Bool.{Bool, true, false, cond, not, _&&_, _||_}
 use mathlib.Core.List.{List, [], _∷_}
+use mathlib.Core.Logic.{_⊎_, inl, inr}
 use Prim.Native.Nat.{ℕ}
 use lib.Dec.{eqb}
 use lib.ListN.{length}
 use borrow.Author.Tests.{eqb-true}
 use Rattle.isa.specs.declared.Answer.{Answer}
 use Rattle.isa.specs.declared.Answer.the-variants.{Done, NoOp, Refused}
+use Rattle.isa.specs.declared.Refusal.{Refusal}
+use Rattle.isa.specs.declared.Refusal.the-variants.{StateLength, Serial, LastCount}
+use Rattle.isa.specs.declared.Normal.{Normal}
 use Rattle.isa.specs.declared.Normal.the-variants as normal
 use Rattle.isa.specs.Operand.{bits}
-use Rattle.isa.specs.State.{stateLength}
-use Rattle.isa.specs.Effect.{Effect, applied, bytesOn}
+use Rattle.isa.specs.State.{stateLength, countOf, lastCount}
+use Rattle.isa.specs.Effect.{Effect, bytesOn}
 use Rattle.isa.specs.Mac16 as Mac16
 use Rattle.isa.specs.Vecint as Vecint
 use Rattle.isa.specs.Call.{Call, call, isMac16, isVecint, effectOf}
-use Rattle.isa.specs.Answers.{Row, rowsAbove, firstOf, answerOf, isDone, reservedBits, reservedMode, laterMode, notCovered, vecintRows, onlyIf}
-use Rattle.isa.specs.Step.{stepped}
+use Rattle.isa.specs.Answers.{Row, rowsAbove, ownRows, firstOf, answerBy, answerOf, ownAnswer, taken, byState}
+use Rattle.isa.specs.Answers.{reservedBits, reservedMode, laterMode, notCovered, vecintRows, onlyIf}
+use Rattle.isa.specs.Step.{leaves, stepped}
 use Rattle.isa.specs.Normal.{mac16Ignored, vecintIgnored, clearedAll, normalOperand, instead, normalOf}
-use Rattle.isa.specs.Demands.{NormalSame, NormalTwice, NormalAnswers}
+use Rattle.isa.specs.Demands.{NormalSame, NormalTwice, NormalAnswers, NormalNever}
 use Rattle.isa.specs.Indexed.{ModeBitsStay}
-use Rattle.number.proofs.Tests.{two, pick-true, pick-false}
+use Rattle.number.proofs.Tests.{true-false, two, either, pick-true, pick-false}
+use Rattle.isa.proofs.Step.{known, by, told}
 use Rattle.isa.proofs.NormalMac16.{mac16-same, mac16-twice}
 use Rattle.isa.proofs.NormalVecint as V′
 
@@ -78,9 +84,9 @@ not-covered-same gen op =
     ∙ sym (ap (λ (b : Bool). not b && not (eqb (bits op 27 30) 0)) e))
     (λ e. λ t. not (V′.reduces-same gen op t) && not (eqb (V′.same gen op 27 30 (rw e tt) t) 0))
 
-answer-same : (n : ℕ) (c : Call) → answerOf n (normalised c) ≡ answerOf n c
-unfolding answerOf Alike
-answer-same n c =
+answer-same : (n count serial : ℕ) (c : Call) → answerBy n count serial (normalised c) ≡ answerBy n count serial c
+unfolding answerBy Alike
+answer-same n count serial c =
     let g : ℕ = c .generation in
     let op : ℕ = c .operand in
     let kept : ℕ = normalOperand c in
@@ -96,13 +102,22 @@ answer-same n c =
       ((by-mode reservedMode, refl), ((by-mode (laterMode g), refl), ((alike notCovered (not-covered-same g op), refl), tt))),
     )
     in
-    first-same (rowsAbove n (normalised c)) (rowsAbove n c) (Done (bytesOn (effectOf (normalised c)))) (Done (bytesOn (effectOf c)))
-    ((refl, refl), ((refl, refl), ((refl, refl), vecint-alike)))
+    first-same (rowsAbove n count serial (normalised c)) (rowsAbove n count serial c)
+    (Done (bytesOn (effectOf (normalised c)))) (Done (bytesOn (effectOf c)))
+    ((refl, refl), ((refl, refl), ((refl, refl), ((refl, refl), ((refl, refl), vecint-alike)))))
     (ap (λ (e : Effect). Done (bytesOn e)) (effect-same c))
 
-step-same : (c : Call) (s : List ℕ) → stepped (normalised c) s ≡ stepped c s
+-- a state of the right length, before its first step, refuses no call, nor does the serial due
+own-first : (c : Call) → ownAnswer c ≡ answerBy stateLength 0 0 c
+unfolding answerBy ownAnswer
+own-first c = refl
+
+own-same : (c : Call) → ownAnswer (normalised c) ≡ ownAnswer c
+own-same c = own-first (normalised c) ∙ answer-same stateLength 0 0 c ∙ sym (own-first c)
+
+step-same : (c : Call) (serial : ℕ) (s : List ℕ) → stepped (normalised c) serial s ≡ stepped c serial s
 unfolding stepped
-step-same c s = λ t. cond (isDone (answer-same (length s) c t)) (applied (effect-same c t) s) s
+step-same c serial s = λ t. leaves (answer-same (length s) (countOf s) serial c t) (effect-same c t) s
 
 pub mode-bits-stay : ModeBitsStay
 mode-bits-stay c e f = ap (λ (x : ℕ). bits x 47 52) (vecint-operand c e) ∙ V′.mode-bits-same (c .generation) (c .operand) f
@@ -112,7 +127,7 @@ mode-bits-stay c e f = ap (λ (x : ℕ). bits x 47 52) (vecint-operand c e) ∙ 
 -- where there is a normal operand it is the call's
 is-normal : (c : Call) (op : ℕ) → normalOf c ≡ normal.Operand op → normalOperand c ≡ op
 unfolding normalOf
-is-normal c op e = go (answerOf stateLength c) e
+is-normal c op e = go (ownAnswer c) e
   where
     go : (a : Answer) → instead a (normalOperand c) ≡ normal.Operand op → normalOperand c ≡ op
     go (Done n) e = cc
@@ -120,10 +135,10 @@ is-normal c op e = go (answerOf stateLength c) e
     go (Refused r) e = cc
 
 pub normal-same : NormalSame
-normal-same c op e s =
+normal-same c op e serial s =
     let of : ℕ → Call = call (c .instruction) (c .generation) in
-    subst (λ (x : ℕ). (answerOf (length s) (of x) ≡ answerOf (length s) c) × (stepped (of x) s ≡ stepped c s))
-    (is-normal c op e) (answer-same (length s) c, step-same c s)
+    subst (λ (x : ℕ). (answerOf s (of x) serial ≡ answerOf s c serial) × (stepped (of x) serial s ≡ stepped c serial s))
+    (is-normal c op e) (answer-same (length s) (countOf s) serial c, step-same c serial s)
 
 operand-twice : (c : Call) → normalOperand (normalised c) ≡ normalOperand c
 operand-twice c =
@@ -143,12 +158,83 @@ normal-twice c op e =
     (is-normal c op e) (once c ∙ e ∙ ap normal.Operand (sym (is-normal c op e)))
   where
     once : (c : Call) → normalOf (normalised c) ≡ normalOf c
-    once c = unfold normalOf in ap₂ instead (answer-same stateLength c) (operand-twice c)
+    once c = unfold normalOf in ap₂ instead (own-same c) (operand-twice c)
 
-pub normal-answers : (c : Call) → NormalAnswers c
-unfolding normalOf
-normal-answers c = record {
-  when-done = λ n e. (normalOperand c, ap (λ (a : Answer). instead a (normalOperand c)) e);
-  when-no-op = λ r e. ap (λ (a : Answer). instead a (normalOperand c)) e;
-  when-refused = λ r e. ap (λ (a : Answer). instead a (normalOperand c)) e;
+-- the answer is the call's own, or a refusal by the state or the serial
+OwnOr : Call → Answer → Type 0
+OwnOr c a = (a ≡ ownAnswer c) ⊎ ((r : Refusal) × (byState r ≡ true) × (a ≡ Refused r))
+
+known-or : (c : Call) (r : Refusal) → byState r ≡ true → OwnOr c (known c (Refused r))
+unfolding OwnOr ownAnswer
+known-or c r e =
+    two (not (eqb (c .generation) 1 || eqb (c .generation) 2)) (OwnOr c (known c (Refused r)))
+    (λ g. inl (pick-true _ _ g ∙ sym (pick-true _ _ g)))
+    (λ g.
+    two (not (isMac16 c || isVecint c)) (OwnOr c (known c (Refused r)))
+    (λ i. inl (pick-false _ _ g ∙ pick-true _ _ i ∙ sym (pick-false _ _ g ∙ pick-true _ _ i)))
+    (λ i. inr (r, e, pick-false _ _ g ∙ pick-false _ _ i)))
+
+own-or : (c : Call) (long last due : Bool) → OwnOr c (by long last due c)
+unfolding OwnOr ownAnswer
+own-or c false last due = inr (StateLength, refl, refl)
+own-or c true false true = inl refl
+own-or c true true due = known-or c LastCount refl
+own-or c true false false = known-or c Serial refl
+
+pub normal-answers : (c : Call) (serial : ℕ) (s : List ℕ) → NormalAnswers c serial s
+unfolding normalOf OwnOr
+normal-answers c serial s = record {
+  when-done = λ n e. (normalOperand c, given (Done n) e (own (Done n) e (λ r t f. true-false (ap taken f))));
+  when-no-op = λ r e. given (NoOp r) e (own (NoOp r) e (λ x t f. true-false (ap taken f)));
+  when-refused = λ r e no. given (Refused r) e (own (Refused r) e (λ x t f. true-false (sym t ∙ ap byStateOf (sym f) ∙ no)));
 }
+  where
+    -- of an answer that is a refusal
+    byStateOf : Answer → Bool
+    byStateOf (Done n) = false
+    byStateOf (NoOp r) = false
+    byStateOf (Refused r) = byState r
+
+    own : (a : Answer) → answerOf s c serial ≡ a → ((r : Refusal) → byState r ≡ true → a ≡ Refused r → ⊥) → ownAnswer c ≡ a
+    own a e never = go (own-or c (eqb (length s) stateLength) (eqb (countOf s) lastCount) (eqb serial (countOf s)))
+      where
+        is : by (eqb (length s) stateLength) (eqb (countOf s) lastCount) (eqb serial (countOf s)) c ≡ a
+        is = sym (told (length s) (countOf s) serial c refl refl refl) ∙ e
+
+        go : OwnOr c (by (eqb (length s) stateLength) (eqb (countOf s) lastCount) (eqb serial (countOf s)) c) → ownAnswer c ≡ a
+        go (inl x) = sym x ∙ is
+        go (inr (r, t, x)) = absurd (never r t (sym is ∙ x))
+
+    given : (a : Answer) → answerOf s c serial ≡ a → ownAnswer c ≡ a → instead (ownAnswer c) (normalOperand c) ≡ instead a (normalOperand c)
+    given a e x = ap (λ (y : Answer). instead y (normalOperand c)) x
+
+-- ---- no row by the call alone refuses by the state or the serial
+
+abbrev NotByState : Answer → Type 0
+NotByState (Done n) = Unit {0}
+NotByState (NoOp r) = Unit {0}
+NotByState (Refused r) = byState r ≡ false
+
+AllOwn : List Row → Type 0
+AllOwn [] = Unit {0}
+AllOwn (r ∷ rs) = NotByState (r .answer) × AllOwn rs
+
+first-own : (rs : List Row) (a : Answer) → AllOwn rs → NotByState a → NotByState (firstOf rs a)
+unfolding AllOwn
+first-own [] a h x = x
+first-own (r ∷ rs) a h x = either NotByState (r .applies) (h .0) (first-own rs a (h .1) x)
+
+pub normal-never : NormalNever
+unfolding normalOf ownAnswer AllOwn
+normal-never c r e =
+    go (ownAnswer c) e (first-own (ownRows c) (Done (bytesOn (effectOf c))) (refl, (refl, (tt, (tt, (tt, (refl, tt)))))) tt)
+  where
+    go : (a : Answer) → instead a (normalOperand c) ≡ normal.Refused r → NotByState a → byState r ≡ false
+    go (Done n) e h = cc
+    go (NoOp x) e h = cc
+    go (Refused x) e h = ap byStateOf (sym e) ∙ h
+      where
+        byStateOf : Normal → Bool
+        byStateOf (normal.Operand op) = true
+        byStateOf (normal.NoOp x) = true
+        byStateOf (normal.Refused x) = byState x

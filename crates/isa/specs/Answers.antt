@@ -1,9 +1,10 @@
 -- What comes back.
 -- Assumes nothing.
 use mathlib.Core.Bool.{Bool, true, false, cond, not, _&&_, _||_}
-use mathlib.Core.List.{List, [], _∷_}
+use mathlib.Core.List.{List, [], _∷_, _++_}
 use Prim.Native.Nat.{ℕ, _+_}
 use lib.Dec.{leb, eqb}
+use lib.ListN.{length}
 use Rattle.isa.specs.declared.Reason.{Reason}
 use Rattle.isa.specs.declared.Reason.the-variants as reason
 use Rattle.isa.specs.declared.Refusal.{Refusal}
@@ -13,7 +14,7 @@ use Rattle.isa.specs.declared.Answer.the-variants.{Done, NoOp, Refused}
 use Rattle.isa.specs.declared.Normal.{Normal}
 use Rattle.isa.specs.declared.Normal.the-variants as normal
 use Rattle.isa.specs.Operand.{bits}
-use Rattle.isa.specs.State.{stateLength}
+use Rattle.isa.specs.State.{stateLength, countOf, lastCount}
 use Rattle.isa.specs.Effect.{bytesOn}
 use Rattle.isa.specs.Vecint.{mode, reduces}
 use Rattle.isa.specs.Call.{Call, isMac16, isVecint, effectOf}
@@ -26,12 +27,14 @@ reasonNumber reason.ReservedBits = 1
 reasonNumber reason.ReservedMode = 2
 reasonNumber reason.LaterGeneration = 3
 
--- refused 1 to 4
+-- refused 1 to 4; 5 to 7 are of files; refused 8 and 9
 abbrev pub refusalNumber : Refusal → ℕ
 refusalNumber refusal.StateLength = 1
 refusalNumber refusal.Generation = 2
 refusalNumber refusal.Instruction = 3
 refusalNumber refusal.NotCovered = 4
+refusalNumber refusal.Serial = 8
+refusalNumber refusal.LastCount = 9
 
 -- "there the answer is one number": what done reports ("the host number included"), "or 65,536 + no-op reason, or 131,072 + refusal"
 abbrev pub noOpNumber : Reason → ℕ
@@ -90,16 +93,36 @@ abbrev pub onlyIf : Bool → List Row → List Row
 onlyIf condition [] = []
 onlyIf condition (r ∷ rs) = row (condition && r .applies) (r .answer) ∷ onlyIf condition rs
 
--- the rows above "done", for a state of n bytes
-abbrev pub rowsAbove : ℕ → Call → List Row
-rowsAbove n c =
-    -- refused 1: state length is not 5,120
-    row (not (eqb n stateLength)) (Refused refusal.StateLength)
+-- the rows by a call's generation and instruction
+abbrev pub knownRows : Call → List Row
+knownRows c =
     -- refused 2: generation not 1 or 2
-    ∷ row (not (eqb (c .generation) 1 || eqb (c .generation) 2)) (Refused refusal.Generation)
+    row (not (eqb (c .generation) 1 || eqb (c .generation) 2)) (Refused refusal.Generation)
     -- refused 3: instruction not 14 or 18
     ∷ row (not (isMac16 c || isVecint c)) (Refused refusal.Instruction)
-    ∷ onlyIf (isVecint c) (vecintRows (c .generation) (c .operand))
+    ∷ []
+
+-- the rows by what a known call asks for
+abbrev pub askedRows : Call → List Row
+askedRows c = onlyIf (isVecint c) (vecintRows (c .generation) (c .operand))
+
+-- "After refusals 1 to 3 and before no-ops: serial not equal to the count is refused 8; a count at 2^64 - 1 is refused 9, tested before 8."
+abbrev pub serialRows : ℕ → ℕ → List Row
+serialRows count serial =
+    row (eqb count lastCount) (Refused refusal.LastCount)
+    ∷ row (not (eqb serial count)) (Refused refusal.Serial)
+    ∷ []
+
+-- the rows above "done", for a state of n bytes with this count, and this serial
+abbrev pub rowsAbove : ℕ → ℕ → ℕ → Call → List Row
+rowsAbove n count serial c =
+    -- "Refusal 1 now tests 5,128"
+    row (not (eqb n stateLength)) (Refused refusal.StateLength)
+    ∷ (knownRows c ++ (serialRows count serial ++ askedRows c))
+
+-- those by the call alone
+abbrev pub ownRows : Call → List Row
+ownRows c = knownRows c ++ askedRows c
 
 -- "First row that applies wins."
 abbrev pub firstOf : List Row → Answer → Answer
@@ -107,10 +130,36 @@ firstOf [] otherwise = otherwise
 firstOf (r ∷ rs) otherwise = cond (r .applies) (r .answer) (firstOf rs otherwise)
 
 -- "done n: otherwise". "Done now reports Z bytes in the enabled lanes, at most 4,096, wherever it reported lanes, the host number included."
-unfoldable pub answerOf : ℕ → Call → Answer
-answerOf n c = firstOf (rowsAbove n c) (Done (bytesOn (effectOf c)))
+abbrev doneAnswer : Call → Answer
+doneAnswer c = Done (bytesOn (effectOf c))
+
+unfoldable pub answerBy : ℕ → ℕ → ℕ → Call → Answer
+answerBy n count serial c = firstOf (rowsAbove n count serial c) (doneAnswer c)
+
+-- what a call is answered on a state, sent with a serial
+abbrev pub answerOf : List ℕ → Call → ℕ → Answer
+answerOf s c serial = answerBy (length s) (countOf s) serial c
+
+-- what a call is answered by itself, where neither the state nor the serial refuses it
+unfoldable pub ownAnswer : Call → Answer
+ownAnswer c = firstOf (ownRows c) (doneAnswer c)
 
 abbrev pub isDone : Answer → Bool
 isDone (Done bytes) = true
 isDone (NoOp r) = false
 isDone (Refused r) = false
+
+-- whether a step is taken, so that it counts: "Done and no-op raise the count by one; refusals leave it."
+abbrev pub taken : Answer → Bool
+taken (Done bytes) = true
+taken (NoOp r) = true
+taken (Refused r) = false
+
+-- the refusals by the state or the serial: 1, 8 and 9
+abbrev pub byState : Refusal → Bool
+byState refusal.StateLength = true
+byState refusal.Generation = false
+byState refusal.Instruction = false
+byState refusal.NotCovered = false
+byState refusal.Serial = true
+byState refusal.LastCount = true

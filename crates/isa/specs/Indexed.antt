@@ -7,6 +7,7 @@ use mathlib.Core.List.{List, [], _∷_, map}
 use mathlib.Core.Logic.{_⊎_}
 use Prim.Native.Nat.{ℕ, _+_, _*_, _/_, _%_, _^_, _<_}
 use lib.IntN.{ℤ, pos}
+use lib.ListN.{length}
 use Rattle.number.specs.Bytes.{table}
 use Rattle.isa.specs.declared.Answer.the-variants.{Done}
 use Rattle.isa.specs.Operand.{bits, bit}
@@ -14,9 +15,9 @@ use Rattle.isa.specs.State.{stateLength, xBase, yBase, rowBytes, loaded}
 use Rattle.isa.specs.Effect.{bytesOn}
 use Rattle.isa.specs.Vecint as Vecint
 use Rattle.isa.specs.Call.{Call, call, isMac16, effectOf}
-use Rattle.isa.specs.Answers.{answerOf}
+use Rattle.isa.specs.Answers.{ownAnswer}
 use Rattle.isa.specs.Normal.{normalOperand}
-use Rattle.isa.specs.Swap.{Allowed}
+use Rattle.isa.specs.Swap.{CountLeft, Allowed}
 use Rattle.isa.specs.Edges.{Edge, edge}
 use Rattle.isa.specs.Guards.{Pin, pin}
 
@@ -121,7 +122,7 @@ InRegister =
 abbrev pub IndexedDone : Type 0
 IndexedDone =
     (gen op : ℕ) → (gen ≡ 1) ⊎ (gen ≡ 2) → bit op 53 ≡ true → bits op 54 56 ≡ 0 → bits op 27 30 ≡ 0
-    → answerOf stateLength (call 18 gen op) ≡ Done (bytesOn (effectOf (call 18 gen op)))
+    → ownAnswer (call 18 gen op) ≡ Done (bytesOn (effectOf (call 18 gen op)))
 
 -- and it only adds, as mode 0 does
 abbrev pub IndexedAdds : Type 0
@@ -129,7 +130,9 @@ IndexedAdds = (gen op : ℕ) → bit op 53 ≡ true → Vecint.forcesZero gen op
 
 -- two of them on the same rows, each of a side, may be swapped
 abbrev pub IndexedSwap : Type 0
-IndexedSwap = Allowed stateLength (0 ∷ []) (call 18 1 (indexedX 10 228 100) ∷ call 18 1 (fourBits + indexedY 12 100 218) ∷ [])
+IndexedSwap =
+    (s : List ℕ) → length s ≡ stateLength → CountLeft s
+    → Allowed s (0 ∷ []) (call 18 1 (indexedX 10 228 100) ∷ call 18 1 (fourBits + indexedY 12 100 218) ∷ [])
 
 -- ---- nothing else moved
 

@@ -13,5 +13,6 @@ pub mod Demands
 pub mod Places
 pub mod Edges
 pub mod Guards
+pub mod Serials
 pub mod MixedWidths
 pub mod Indexed

@@ -7,16 +7,17 @@ use mathlib.Core.List.{List, [], _∷_, _++_, map}
 use Prim.Native.Nat.{ℕ, zero, suc, _+_, _*_, _^_}
 use lib.Dec.{eqb}
 use lib.IntN.{ℤ, pos}
+use lib.ListN.{length}
 use Rattle.isa.specs.Operand.{bits}
 use Rattle.isa.specs.State.{stateLength, zBase, lanesOf}
 use Rattle.isa.specs.Effect.{Effect, touches, count}
 use Rattle.isa.specs.Enable.{vecintEnables}
 use Rattle.isa.specs.Vecint as Vecint
 use Rattle.isa.specs.Call.{Call, call}
-use Rattle.isa.specs.Swap.{Allowed, enables, onlyAdds}
+use Rattle.isa.specs.Swap.{CountLeft, Allowed, enables, onlyAdds}
 use Rattle.isa.specs.Places.{vecintRow, vecintLane}
 use Rattle.isa.specs.Edges.{Edge, edge}
-use Rattle.isa.specs.Guards.{Pin, pin, answered}
+use Rattle.isa.specs.Guards.{Pin, pin, ownNumber}
 
 -- ---- lanes
 
@@ -68,7 +69,7 @@ oddLanes = call 18 1 (masking 12 0 1)
 
 -- their bytes: 16 lanes of 4
 abbrev pub OddAnswered : Type 0
-OddAnswered = answered stateLength oddLanes ≡ 64
+OddAnswered = ownNumber oddLanes ≡ 64
 
 -- ---- nothing else moved
 
@@ -97,7 +98,7 @@ storedProduct = call 14 1 (2 ^ 63 + 2 ^ 27 + 1 * 2 ^ 20)
 
 -- k 1, 5, 9 and so on are the lanes of row 1; the rule enables none of them, so the two may be swapped
 abbrev pub SwapAllowed : Type 0
-SwapAllowed = Allowed stateLength (0 ∷ []) (oddLanes ∷ storedProduct ∷ [])
+SwapAllowed = (s : List ℕ) → CountLeft s → Allowed s (0 ∷ []) (oddLanes ∷ storedProduct ∷ [])
 
 -- the effect by the old rule
 abbrev pub byX : ℕ → ℕ → Effect
@@ -109,7 +110,10 @@ byX gen op = record {
 }
 
 -- by the old rule they were not: the first byte of row 1 lies in enabled lanes of both, and the product does not only add
-pub record NoSwapByX : Type 0 where
+pub record NoSwapByX (s : List ℕ) : Type 0 where
   pub first : touches (byX (oddLanes .generation) (oddLanes .operand)) (zBase + 64) ≡ true
-  pub second : enables stateLength storedProduct (zBase + 64) ≡ true
-  pub not-adding : onlyAdds stateLength storedProduct ≡ false
+  pub second : enables s storedProduct (zBase + 64) ≡ true
+  pub not-adding : onlyAdds s storedProduct ≡ false
+
+abbrev pub NoSwapBefore : Type 0
+NoSwapBefore = (s : List ℕ) → length s ≡ stateLength → CountLeft s → NoSwapByX s

@@ -9,11 +9,10 @@ use Rattle.isa.specs.declared.Answer.the-variants.{Done, NoOp, Refused}
 use Rattle.isa.specs.declared.Normal.{Normal}
 use Rattle.isa.specs.declared.Normal.the-variants as normal
 use Rattle.isa.specs.Operand.{bit, cleared}
-use Rattle.isa.specs.State.{stateLength}
 use Rattle.isa.specs.Mac16 as Mac16
 use Rattle.isa.specs.Vecint as Vecint
 use Rattle.isa.specs.Call.{Call, isMac16}
-use Rattle.isa.specs.Answers.{answerOf}
+use Rattle.isa.specs.Answers.{ownAnswer}
 
 -- bits first to last, ignored on a condition
 pub record Ignored : Type 0 where
@@ -81,14 +80,14 @@ unfoldable pub normalOperand : Call → ℕ
 normalOperand c = clearedAll (ignored c) (c .operand)
 
 -- "Asking for it takes generation, instruction and operand, and gives the step's own refusal or no-op where the step isn't done."
--- There is no state, so none has the wrong length.
+-- There is neither state nor serial, so the answer is the call's own: never refused 1, 8 or 9.
 abbrev pub instead : Answer → ℕ → Normal
 instead (Done bytes) op = normal.Operand op
 instead (NoOp r) op = normal.NoOp r
 instead (Refused r) op = normal.Refused r
 
 unfoldable pub normalOf : Call → Normal
-normalOf c = instead (answerOf stateLength c) (normalOperand c)
+normalOf c = instead (ownAnswer c) (normalOperand c)
 
 -- the operand that is handed back: the normal one, or the operand as given where the step isn't done
 abbrev pub handedBack : ℕ → Normal → ℕ

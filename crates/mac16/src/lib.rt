@@ -7,7 +7,7 @@ ghost use lib.IntN.{pos};
 ghost use lib.ListN.{length, getD, replicate};
 ghost use Rattle.number.specs.Bytes.{byteAt, table};
 ghost use Rattle.isa.specs.Operand.{bits, bit};
-ghost use Rattle.isa.specs.State.{stateLength};
+ghost use Rattle.isa.specs.State.{registerBytes};
 ghost use Rattle.isa.specs.Effect.{applied, bytesOn, count};
 ghost use Rattle.isa.specs.Mac16 as Mac16;
 ghost use Rattle.isa.specs.Mac16.{vector, matrix16, matrix32};
@@ -166,7 +166,7 @@ fn row16(
     s: u32,
     keep: bool,
 )
-    ensures { λ _. ⌜ now (state .exit) ≡ cond (eqb (length (now (state .entry))) stateLength)
+    ensures { λ _. ⌜ now (state .exit) ≡ cond (eqb (length (now (state .entry))) registerBytes)
         (applied (runSum 2 row 1 (rowTerms 2 32 (s % 32) (now (xs .entry)) (now (ys .entry)))
         (now (on .entry)) keep) (now (state .entry))) (now (state .entry)) ⌝ }
 {
@@ -184,7 +184,7 @@ fn pair32(
     s: u32,
     keep: bool,
 )
-    ensures { λ _. ⌜ now (state .exit) ≡ cond (eqb (length (now (state .entry))) stateLength)
+    ensures { λ _. ⌜ now (state .exit) ≡ cond (eqb (length (now (state .entry))) registerBytes)
         (applied (runSum 4 (j * 2) 2 (rowTerms 4 32 (s % 32) (masked (now (on .entry)) (now (xs .entry))) (now (ys .entry)))
         (now (on .entry)) keep) (now (state .entry))) (now (state .entry)) ⌝ }
 {
@@ -213,7 +213,7 @@ fn matrix16_row(
     s: u32,
     keep: bool,
 )
-    requires { ⌜ (length (now state) ≡ stateLength) × (j < 32) × (p < 2) ⌝ }
+    requires { ⌜ (length (now state) ≡ registerBytes) × (j < 32) × (p < 2) ⌝ }
     ensures { λ _. ⌜ now (state .exit) ≡ cond (getD (now (yon .entry)) j false)
         (applied (runSum 2 (2 * j + p) 1 (rowTerms 2 32 (s % 32) (now (xs .entry)) (replicate 32 (getD (now (ys .entry)) j (pos 0))))
         (now (on .entry)) keep) (now (state .entry)))
@@ -237,7 +237,7 @@ fn matrix16(
     s: u32,
     keep: bool,
 )
-    requires { ⌜ (length (now state) ≡ stateLength) × (p < 2) ⌝ }
+    requires { ⌜ (length (now state) ≡ registerBytes) × (p < 2) ⌝ }
     ensures { λ _. ⌜ now (state .exit) ≡
         applied (products Mac16.matrix16 p (now (xs .entry)) (now (on .entry)) (now (ys .entry)) (now (yon .entry)) (s % 32) keep) (now (state .entry)) ⌝ }
 {
@@ -278,7 +278,7 @@ fn matrix32_pair(
     s: u32,
     keep: bool,
 )
-    requires { ⌜ (length (now state) ≡ stateLength) × (j < 32) ⌝ }
+    requires { ⌜ (length (now state) ≡ registerBytes) × (j < 32) ⌝ }
     ensures { λ _. ⌜ now (state .exit) ≡ cond (getD (now (yon .entry)) j false)
         (applied (runSum 4 (j * 2) 2 (rowTerms 4 32 (s % 32) (masked (now (on .entry)) (now (xs .entry))) (replicate 32 (getD (now (ys .entry)) j (pos 0))))
         (now (on .entry)) keep) (now (state .entry)))
@@ -301,7 +301,7 @@ fn matrix32(
     s: u32,
     keep: bool,
 )
-    requires { ⌜ length (now state) ≡ stateLength ⌝ }
+    requires { ⌜ length (now state) ≡ registerBytes ⌝ }
     ensures { λ _. ⌜ now (state .exit) ≡
         applied (products Mac16.matrix32 0 (masked (now (on .entry)) (now (xs .entry)))
         (now (on .entry)) (now (ys .entry)) (now (yon .entry)) (s % 32) keep) (now (state .entry)) ⌝ }
@@ -324,7 +324,7 @@ fn matrix_bytes(x: u64, y: u64, width: u64) -> u64
 }
 
 fn vector_step(state: &mut [u8], op: u64) -> u64
-    requires { ⌜ length (now state) ≡ stateLength ⌝ }
+    requires { ⌜ length (now state) ≡ registerBytes ⌝ }
     ensures { λ r. ⌜ (now (state .exit) ≡ applied (productsOf Mac16.vector op (now (state .entry))) (now (state .entry)))
         × (r ≡ bytesOn (Mac16.effect Mac16.vector op)) ⌝ }
 {
@@ -337,7 +337,7 @@ fn vector_step(state: &mut [u8], op: u64) -> u64
 }
 
 fn matrix16_step(state: &mut [u8], op: u64) -> u64
-    requires { ⌜ length (now state) ≡ stateLength ⌝ }
+    requires { ⌜ length (now state) ≡ registerBytes ⌝ }
     ensures { λ r. ⌜ (now (state .exit) ≡ applied (productsOf Mac16.matrix16 op (now (state .entry))) (now (state .entry)))
         × (r ≡ bytesOn (Mac16.effect Mac16.matrix16 op)) ⌝ }
 {
@@ -361,7 +361,7 @@ fn matrix16_step(state: &mut [u8], op: u64) -> u64
 }
 
 fn matrix32_step(state: &mut [u8], op: u64) -> u64
-    requires { ⌜ length (now state) ≡ stateLength ⌝ }
+    requires { ⌜ length (now state) ≡ registerBytes ⌝ }
     ensures { λ r. ⌜ (now (state .exit) ≡ applied (productsOf Mac16.matrix32 op (now (state .entry))) (now (state .entry)))
         × (r ≡ bytesOn (Mac16.effect Mac16.matrix32 op)) ⌝ }
 {
@@ -377,9 +377,9 @@ fn matrix32_step(state: &mut [u8], op: u64) -> u64
 
 // mac16 on a state of 5,120 bytes, and the count of bytes in enabled lanes; a state of another length stays as it is.
 pub fn step(state: &mut [u8], op: u64) -> u64
-    ensures { λ r. ⌜ (now (state .exit) ≡ cond (eqb (length (now (state .entry))) stateLength)
+    ensures { λ r. ⌜ (now (state .exit) ≡ cond (eqb (length (now (state .entry))) registerBytes)
         (applied (Mac16.mac16 op) (now (state .entry))) (now (state .entry)))
-        × (r ≡ cond (eqb (length (now (state .entry))) stateLength) (bytesOn (Mac16.mac16 op)) 0) ⌝ }
+        × (r ≡ cond (eqb (length (now (state .entry))) registerBytes) (bytesOn (Mac16.mac16 op)) 0) ⌝ }
 {
     if state.len() != 5120 {
         return 0;

@@ -8,7 +8,7 @@ ghost use lib.ListN.{length, getD};
 ghost use lib.Seq.{sets};
 ghost use Rattle.number.specs.Bytes.{byteAt, number, bytesOf};
 ghost use Rattle.number.specs.Integers.{_≫_, clamp, clampSigned};
-ghost use Rattle.isa.specs.State.{stateLength};
+ghost use Rattle.isa.specs.State.{registerBytes};
 ghost use Rattle.isa.specs.Effect.{applied};
 ghost use Rattle.state.specs.Rows.{oneRow};
 ghost use Rattle.reduction.specs.Reduction.{widthIn, valueOf, reduceTo, addedTo, shiftedBy, lowEnd, highEnd, laneStored, rowReduced};
@@ -277,7 +277,7 @@ fn lane32(state: &mut [u8], at: usize, on: bool, how: Reduce)
 // ---- rows, a loop for each width: with the width and the count of lanes known the compiler does better
 
 fn row8(state: &mut [u8], row: usize, on: &[bool; 64], how: Reduce)
-    requires { ⌜ (length (now state) ≡ stateLength) × (row < 64) ⌝ }
+    requires { ⌜ (length (now state) ≡ registerBytes) × (row < 64) ⌝ }
     ensures { λ _. ⌜ now (state .exit) ≡ applied (rowReduced 1 row (now (on .entry)) how) (now (state .entry)) ⌝ }
 {
     for l in 0..64 {
@@ -286,7 +286,7 @@ fn row8(state: &mut [u8], row: usize, on: &[bool; 64], how: Reduce)
 }
 
 fn row16(state: &mut [u8], row: usize, on: &[bool; 64], how: Reduce)
-    requires { ⌜ (length (now state) ≡ stateLength) × (row < 64) ⌝ }
+    requires { ⌜ (length (now state) ≡ registerBytes) × (row < 64) ⌝ }
     ensures { λ _. ⌜ now (state .exit) ≡ applied (rowReduced 2 row (now (on .entry)) how) (now (state .entry)) ⌝ }
 {
     for l in 0..32 {
@@ -295,7 +295,7 @@ fn row16(state: &mut [u8], row: usize, on: &[bool; 64], how: Reduce)
 }
 
 fn row32(state: &mut [u8], row: usize, on: &[bool; 64], how: Reduce)
-    requires { ⌜ (length (now state) ≡ stateLength) × (row < 64) ⌝ }
+    requires { ⌜ (length (now state) ≡ registerBytes) × (row < 64) ⌝ }
     ensures { λ _. ⌜ now (state .exit) ≡ applied (rowReduced 4 row (now (on .entry)) how) (now (state .entry)) ⌝ }
 {
     for l in 0..16 {
@@ -304,7 +304,7 @@ fn row32(state: &mut [u8], row: usize, on: &[bool; 64], how: Reduce)
 }
 
 fn row_in(state: &mut [u8], row: usize, b: usize, on: &[bool; 64], how: Reduce)
-    requires { ⌜ (length (now state) ≡ stateLength) × (row < 64) ⌝ }
+    requires { ⌜ (length (now state) ≡ registerBytes) × (row < 64) ⌝ }
     ensures { λ _. ⌜ now (state .exit) ≡ applied (rowReduced (widthIn b) row (now (on .entry)) how) (now (state .entry)) ⌝ }
 {
     if b == 1 {
@@ -320,7 +320,7 @@ fn row_in(state: &mut [u8], row: usize, b: usize, on: &[bool; 64], how: Reduce)
 
 // The lanes of b bytes of a row; those that are off stay. A state of another length than 5,120 bytes stays as it is.
 pub fn reduce_row(state: &mut [u8], row: usize, b: usize, on: &[bool; 64], how: Reduce)
-    ensures { λ _. ⌜ now (state .exit) ≡ cond (eqb (length (now (state .entry))) stateLength)
+    ensures { λ _. ⌜ now (state .exit) ≡ cond (eqb (length (now (state .entry))) registerBytes)
         (applied (oneRow (widthIn b) row (λ l. getD (now (on .entry)) l false) (λ l. reduceTo (widthIn b) how)) (now (state .entry))) (now (state .entry)) ⌝ }
 {
     if state.len() != 5120 {

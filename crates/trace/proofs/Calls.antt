@@ -9,9 +9,9 @@ use native.Mathlib.Omega.{arith}
 use lib.ListN.{length}
 use lib.Seq.{sets, length-sets}
 use Rattle.number.specs.Bytes.{table}
+use Rattle.isa.specs.State.{countOf}
 use Rattle.isa.specs.Call.{Call}
-use Rattle.isa.specs.Answers.{answerOf}
-use Rattle.isa.specs.Step.{stepped, run}
+use Rattle.isa.specs.Step.{answerDue, stepDue, run}
 use Rattle.isa.proofs.Step.{stepped-length}
 use Rattle.file.specs.File.{callAt, calls, startOf}
 use Rattle.file.proofs.Records.{length-calls}
@@ -29,21 +29,21 @@ calls-more : (file : List ℕ) (i : ℕ) → calls file (i + 1) ≡ calls file i
 calls-more file i =
     ap (calls file) (add-one i) ∙ table-more (callAt file) 0 i ∙ ap (λ (k : ℕ). calls file i ++ (callAt file k ∷ [])) (zero-add i)
 
-run-more : (cs : List Call) (c : Call) (s : List ℕ) → run (cs ++ (c ∷ [])) s ≡ stepped c (run cs s)
+run-more : (cs : List Call) (c : Call) (s : List ℕ) → run (cs ++ (c ∷ [])) s ≡ stepDue c (run cs s)
 run-more [] c s = refl
-run-more (d ∷ cs) c s = run-more cs c (stepped d s)
+run-more (d ∷ cs) c s = run-more cs c (stepDue d s)
 
 lines-more : (cs : List Call) (c : Call) (i : ℕ) (s : List ℕ)
-    → stepLines (cs ++ (c ∷ [])) i s ≡ stepLines cs i s ++ stepLine (i + length cs) (answerOf (length (run cs s)) c)
+    → stepLines (cs ++ (c ∷ [])) i s ≡ stepLines cs i s ++ stepLine (i + length cs) (answerDue (run cs s) c)
 unfolding stepLines
 lines-more [] c i s =
-    append-nil (stepLine i (answerOf (length s) c)) ∙ ap (λ (k : ℕ). stepLine k (answerOf (length s) c)) (sym (add-zero i))
+    append-nil (stepLine i (answerDue s c)) ∙ ap (λ (k : ℕ). stepLine k (answerDue s c)) (sym (add-zero i))
 lines-more (d ∷ cs) c i s =
     let next : suc i + length cs ≡ i + suc (length cs) = omega arith in
-    ap (λ (r : List ℕ). stepLine i (answerOf (length s) d) ++ r)
-    (lines-more cs c (suc i) (stepped d s)
-    ∙ ap (λ (k : ℕ). stepLines cs (suc i) (stepped d s) ++ stepLine k (answerOf (length (run cs (stepped d s))) c)) next)
-    ∙ sym (append-assoc (stepLine i (answerOf (length s) d)) (stepLines cs (suc i) (stepped d s)) (stepLine (i + suc (length cs)) (answerOf (length (run cs (stepped d s))) c)))
+    ap (λ (r : List ℕ). stepLine i (answerDue s d) ++ r)
+    (lines-more cs c (suc i) (stepDue d s)
+    ∙ ap (λ (k : ℕ). stepLines cs (suc i) (stepDue d s) ++ stepLine k (answerDue (run cs (stepDue d s)) c)) next)
+    ∙ sym (append-assoc (stepLine i (answerDue s d)) (stepLines cs (suc i) (stepDue d s)) (stepLine (i + suc (length cs)) (answerDue (run cs (stepDue d s)) c)))
 
 -- ---- of a file
 
@@ -51,14 +51,14 @@ lines-more (d ∷ cs) c i s =
 abbrev pub linesTo : List ℕ → ℕ → List ℕ
 linesTo file i = stepLines (calls file i) 0 (startOf file)
 
-ended-more : (file : List ℕ) (i : ℕ) → ended file (i + 1) ≡ stepped (callAt file i) (ended file i)
+ended-more : (file : List ℕ) (i : ℕ) → ended file (i + 1) ≡ stepDue (callAt file i) (ended file i)
 ended-more file i = ap (λ (cs : List Call). run cs (startOf file)) (calls-more file i) ∙ run-more (calls file i) (callAt file i) (startOf file)
 
-linesTo-more : (file : List ℕ) (i : ℕ) → linesTo file (i + 1) ≡ linesTo file i ++ stepLine i (answerOf (length (ended file i)) (callAt file i))
+linesTo-more : (file : List ℕ) (i : ℕ) → linesTo file (i + 1) ≡ linesTo file i ++ stepLine i (answerDue (ended file i) (callAt file i))
 linesTo-more file i =
     let place : 0 + length (calls file i) ≡ i = zero-add (length (calls file i)) ∙ length-calls file i in
     ap (λ (cs : List Call). stepLines cs 0 (startOf file)) (calls-more file i) ∙ lines-more (calls file i) (callAt file i) 0 (startOf file)
-    ∙ ap (λ (k : ℕ). linesTo file i ++ stepLine k (answerOf (length (ended file i)) (callAt file i))) place
+    ∙ ap (λ (k : ℕ). linesTo file i ++ stepLine k (answerDue (ended file i) (callAt file i))) place
 
 -- the state and the buffer after i steps
 abbrev pub Stepped : List ℕ → List ℕ → ℕ → List ℕ → List ℕ → ℕ → Type 0
@@ -69,12 +69,12 @@ unfolding stepLines table
 steps-none file out₀ state e = (e, (refl, refl))
 
 pub steps-more : (file out₀ state out state′ out′ : List ℕ) (i at at′ : ℕ) → Stepped file out₀ i state out at
-    → state′ ≡ stepped (callAt file i) state → Stored out at (stepLine i (answerOf (length state) (callAt file i))) out′ at′
+    → state′ ≡ stepDue (callAt file i) state → Stored out at (stepLine i (answerDue state (callAt file i))) out′ at′
     → Stepped file out₀ (i + 1) state′ out′ at′
-steps-more file out₀ state out state′ out′ i at at′ (s, front) t back = (t ∙ ap (stepped (callAt file i)) s ∙ sym (ended-more file i), all)
+steps-more file out₀ state out state′ out′ i at at′ (s, front) t back = (t ∙ ap (stepDue (callAt file i)) s ∙ sym (ended-more file i), all)
   where
     line : List ℕ → List ℕ
-    line u = stepLine i (answerOf (length u) (callAt file i))
+    line u = stepLine i (answerDue u (callAt file i))
 
     all : Stored out₀ 0 (linesTo file (i + 1)) out′ at′
     all =
@@ -84,7 +84,7 @@ steps-more file out₀ state out state′ out′ i at at′ (s, front) t back = 
 -- neither changes its length
 length-run : (cs : List Call) (s : List ℕ) → length (run cs s) ≡ length s
 length-run [] s = refl
-length-run (c ∷ cs) s = length-run cs (stepped c s) ∙ stepped-length c s
+length-run (c ∷ cs) s = length-run cs (stepDue c s) ∙ stepped-length c (countOf s) s
 
 pub steps-length : (file out₀ state₀ state out : List ℕ) (i at : ℕ) → state₀ ≡ startOf file → Stepped file out₀ i state out at
     → (length state ≡ length state₀) × (length out ≡ length out₀)

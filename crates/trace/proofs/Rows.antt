@@ -5,7 +5,7 @@ use mathlib.Core.Bool.{Bool, true, false, not}
 use mathlib.Core.List.{List, []}
 use mathlib.Core.Logic.{⊎-elim}
 use Prim.Native.Nat.{ℕ, _+_, _*_, _≤_, _<_}
-use native.Mathlib.Nat.{add-zero, zero-add}
+use native.Mathlib.Nat.{add-zero}
 use native.Mathlib.Numerals.{add-one}
 use native.Mathlib.Omega.{arith}
 use borrow.Author.Tests.{eq-eqb, ne-eqb}
@@ -13,10 +13,10 @@ use lib.Dec.{eqb}
 use lib.ListN.{length}
 use Rattle.number.specs.Bytes.{byteAt, table}
 use Rattle.number.proofs.Tests.{pick-true, pick-false, is-false, true-false, lt-or-le}
-use Rattle.number.proofs.Bytes.{length-table, getD-table, table-same}
-use Rattle.isa.specs.State.{stateLength}
+use Rattle.number.proofs.Bytes.{length-table, table-same}
 use Rattle.file.specs.File.{all, startOf}
 use Rattle.file.proofs.Paddings.{all-at, all-true}
+use Rattle.file.proofs.Records.{start-byte}
 use Rattle.text.specs.Lines.{zLine}
 use Rattle.text.proofs.Pieces.{Stored, stored-append}
 use Rattle.trace.proofs.Short.{z-short}
@@ -51,9 +51,6 @@ same-more a b k old e j h =
     (lt-or-le j k)
 
 -- ---- the row of the starting state, in the file
-
-start-byte : (file : List ℕ) (p : ℕ) → p < 5120 → byteAt (startOf file) p ≡ byteAt file (28 + p)
-start-byte file p h = getD-table (λ k. byteAt file (28 + k)) 0 0 stateLength p h ∙ ap (λ (k : ℕ). byteAt file (28 + k)) (zero-add p)
 
 start-row : (file : List ℕ) (r : ℕ) → r < 64 → table (λ k. byteAt file (28 + (1024 + r * 64) + k)) 0 64 ≡ rowOf (startOf file) r
 start-row file r h =

@@ -12,8 +12,9 @@ use Rattle.isa.specs.declared.Answer.{Answer}
 use Rattle.isa.specs.declared.Answer.the-variants.{Done}
 use Rattle.isa.specs.Effect.{bytesOn}
 use Rattle.isa.specs.Call.{Call, effectOf}
-use Rattle.isa.specs.Answers.{Row, rowsAbove, firstOf, answerOf, hostNumber}
-use Rattle.isa.specs.Step.{stepped}
+use Rattle.isa.specs.State.{countOf}
+use Rattle.isa.specs.Answers.{Row, rowsAbove, firstOf, answerBy, hostNumber}
+use Rattle.isa.specs.Step.{answerDue, stepDue}
 use Rattle.isa.proofs.Count.{bytes-most}
 use Rattle.file.specs.declared.FileRefusal.the-variants.{Short, Contents, Padding}
 use Rattle.file.specs.declared.Opened.{Opened}
@@ -37,25 +38,25 @@ unfolding AllSmall
 first-small [] d t l = l
 first-small (r ∷ rs) d (h, t) l = either (λ (a : Answer). hostNumber a < 2 ^ 64) (r .applies) h (first-small rs d t l)
 
-answer-number : (n : ℕ) (c : Call) → hostNumber (answerOf n c) < 2 ^ 64
-unfolding answerOf AllSmall
-answer-number n c =
-    first-small (rowsAbove n c) (Done (bytesOn (effectOf c)))
-    (omega arith, (omega arith, (omega arith, (omega arith, (omega arith, (omega arith, (omega arith, tt)))))))
+answer-number : (s : List ℕ) (c : Call) → hostNumber (answerDue s c) < 2 ^ 64
+unfolding answerBy AllSmall
+answer-number s c =
+    first-small (rowsAbove (length s) (countOf s) (countOf s) c) (Done (bytesOn (effectOf c)))
+    (omega arith, (omega arith, (omega arith, (omega arith, (omega arith, (omega arith, (omega arith, (omega arith, (omega arith, tt)))))))))
     (omega (arith, bytes-most (effectOf c)))
 
 -- ---- lines
 
-pub line-short : (i n : ℕ) (c : Call) → i < 2 ^ 32 → length (stepLine i (answerOf n c)) ≤ 55
-line-short i n c h = step-short i (answerOf n c) (omega arith) (answer-number n c)
+pub line-short : (i : ℕ) (s : List ℕ) (c : Call) → i < 2 ^ 32 → length (stepLine i (answerDue s c)) ≤ 55
+line-short i s c h = step-short i (answerDue s c) (omega arith) (answer-number s c)
 
 lines-short : (cs : List Call) (i : ℕ) (s : List ℕ) → i + length cs < 2 ^ 32 → length (stepLines cs i s) ≤ 55 * length cs
 unfolding stepLines
 lines-short [] i s h = omega arith
 lines-short (c ∷ cs) i s h =
-    let line : List ℕ = stepLine i (answerOf (length s) c) in
-    let rest : List ℕ = stepLines cs (suc i) (stepped c s) in
-    omega (arith, length-append line rest, line-short i (length s) c (omega arith), lines-short cs (suc i) (stepped c s) (omega arith))
+    let line : List ℕ = stepLine i (answerDue s c) in
+    let rest : List ℕ = stepLines cs (suc i) (stepDue c s) in
+    omega (arith, length-append line rest, line-short i s c (omega arith), lines-short cs (suc i) (stepDue c s) (omega arith))
 
 pub z-short : (r : ℕ) (bytes : List ℕ) → r < 64 → length bytes ≡ 64 → length (zLine r bytes) ≤ 152
 z-short r bytes h size = omega (arith, row-short r bytes (omega arith), size)

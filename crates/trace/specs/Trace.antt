@@ -10,8 +10,7 @@ use lib.Seq.{sets}
 use Rattle.number.specs.Bytes.{byteAt, table}
 use Rattle.isa.specs.State.{stateLength, zBase, rows, rowBytes}
 use Rattle.isa.specs.Call.{Call}
-use Rattle.isa.specs.Answers.{answerOf}
-use Rattle.isa.specs.Step.{stepped, run, answers}
+use Rattle.isa.specs.Step.{answerDue, stepDue, run, answers}
 use Rattle.isa.specs.Swap.{swaps, Allowed}
 use Rattle.file.specs.declared.Opened.{Opened}
 use Rattle.file.specs.declared.Opened.the-variants.{Steps, Refused}
@@ -25,10 +24,10 @@ use Rattle.trace.specs.declared.Ran.the-variants.{Answered, End}
 
 -- ---- lines
 
--- the lines of calls, one for each, from place i on: "each call gets it as the last one left it"
+-- the lines of calls, one for each, from place i on: "each call gets it as the last one left it", and the "driver takes the serial from the count"
 unfoldable pub stepLines : List Call → ℕ → List ℕ → List ℕ
 stepLines [] i s = []
-stepLines (c ∷ cs) i s = stepLine i (answerOf (length s) c) ++ stepLines cs (suc i) (stepped c s)
+stepLines (c ∷ cs) i s = stepLine i (answerDue s c) ++ stepLines cs (suc i) (stepDue c s)
 
 -- the 64 bytes of Z row r
 abbrev pub rowOf : List ℕ → ℕ → List ℕ
@@ -103,12 +102,12 @@ outAfter file state out = cond (hasRoom state out) (sets out 0 (textOf file)) ou
 
 -- ---- one record
 
--- what running the record at a cursor answers, on a state of n bytes, and the state after it
-abbrev pub ranAs : List ℕ → ℕ → Cursor → Ran
-ranAs file n c = cond (atStep c) (Answered (answerOf n (callAt file (c .next))) (cursor (c .next + 1) (c .end))) End
+-- what running the record at a cursor answers, and the state after it
+abbrev pub ranAs : List ℕ → List ℕ → Cursor → Ran
+ranAs file state c = cond (atStep c) (Answered (answerDue state (callAt file (c .next))) (cursor (c .next + 1) (c .end))) End
 
 abbrev pub ranState : List ℕ → List ℕ → Cursor → List ℕ
-ranState file state c = cond (atStep c) (stepped (callAt file (c .next)) state) state
+ranState file state c = cond (atStep c) (stepDue (callAt file (c .next)) state) state
 
 -- ---- what is proved of it
 
@@ -119,6 +118,6 @@ Fits = (file : List ℕ) → length (textOf file) ≤ roomLength
 -- "The steps of an accepted trace file are such a list": every chain of allowed swaps of them leaves the same state and the same answers
 abbrev pub FileRearranged : Type 0
 FileRearranged =
-    (file : List ℕ) (n : ℕ) → openedAs file ≡ Steps n → (chain : List ℕ) → Allowed stateLength chain (calls file n)
+    (file : List ℕ) (n : ℕ) → openedAs file ≡ Steps n → (chain : List ℕ) → Allowed (startOf file) chain (calls file n)
     → (run (swaps chain (calls file n)) (startOf file) ≡ run (calls file n) (startOf file))
     × (answers (swaps chain (calls file n)) (startOf file) ≡ swaps chain (answers (calls file n) (startOf file)))

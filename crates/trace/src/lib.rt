@@ -4,13 +4,13 @@ ghost use Prim.Native.Nat.{_+_, _*_, _≤_, _<_};
 ghost use lib.ListN.{length};
 ghost use lib.Seq.{sets};
 ghost use Rattle.number.specs.Bytes.{byteAt, table};
-ghost use Rattle.isa.specs.Answers.{answerOf};
-ghost use Rattle.isa.specs.Step.{stepped};
+ghost use Rattle.isa.specs.State.{stateLength};
+ghost use Rattle.isa.specs.Step.{answerDue, stepDue};
 ghost use Rattle.file.specs.File as File;
 ghost use Rattle.text.specs.Lines.{stepLine};
 ghost use Rattle.trace.specs.Trace.{differ, rowLine, zLines, stepLines, ended, acceptedText, printedAs, stateAfter, outAfter, ranAs, ranState};
 
-// What printing answers: the length of the text, or that the state has not 5,120 bytes or the buffer too few for every text.
+// What printing answers: the length of the text, or that the state has not 5,128 bytes or the buffer too few for every text.
 pub enum Printed {
     Text(usize),
     NoRoom,
@@ -24,15 +24,22 @@ pub enum Ran {
 
 // ---- steps
 
-// The record at the cursor, run on the lent state.
+// The record at the cursor, run on the lent state with the serial due.
 pub fn run_record(file: &[u8], state: &mut [u8], cursor: file::Cursor) -> Ran
     ensures { λ r. ⌜ (now (state .exit) ≡ ranState (now (file .entry)) (now (state .entry)) cursor)
-        × (r ≡ ranAs (now (file .entry)) (length (now (state .entry))) cursor) ⌝ }
+        × (r ≡ ranAs (now (file .entry)) (now (state .entry)) cursor) ⌝ }
 {
     let found = file::read_record(file, cursor);
     match found {
         file::Read::Record(step, next) => {
-            let answer = amx::step(state, step.instruction, step.generation, step.operand);
+            let serial = amx::due(state);
+            let answer = amx::step(
+                state,
+                step.instruction,
+                step.generation,
+                step.operand,
+                serial,
+            );
             Ran::Answered(answer, next)
         }
         file::Read::End => Ran::End,
@@ -42,9 +49,9 @@ pub fn run_record(file: &[u8], state: &mut [u8], cursor: file::Cursor) -> Ran
 // Step i of n run, and its line.
 fn print_step(file: &[u8], state: &mut [u8], out: &mut [u8], at: usize, i: usize, n: usize) -> usize
     requires { ⌜ (i < n) × (n ≤ 2048) × (at ≤ 55 * i) ⌝ }
-    ensures { λ r. ⌜ (now (state .exit) ≡ stepped (File.callAt (now (file .entry)) i) (now (state .entry)))
-        × (now (out .exit) ≡ sets (now (out .entry)) at (stepLine i (answerOf (length (now (state .entry))) (File.callAt (now (file .entry)) i))))
-        × (r ≡ at + length (stepLine i (answerOf (length (now (state .entry))) (File.callAt (now (file .entry)) i)))) ⌝ }
+    ensures { λ r. ⌜ (now (state .exit) ≡ stepDue (File.callAt (now (file .entry)) i) (now (state .entry)))
+        × (now (out .exit) ≡ sets (now (out .entry)) at (stepLine i (answerDue (now (state .entry)) (File.callAt (now (file .entry)) i))))
+        × (r ≡ at + length (stepLine i (answerDue (now (state .entry)) (File.callAt (now (file .entry)) i)))) ⌝ }
     ensures short { λ r. ⌜ r ≤ at + 55 ⌝ }
 {
     let ran = run_record(file, state, file::Cursor { next: i, end: n });
@@ -126,7 +133,7 @@ fn print_rows(file: &[u8], state: &[u8], out: &mut [u8], from: usize) -> usize
 
 // The text of an accepted file with n steps.
 fn print_accepted(file: &[u8], state: &mut [u8], out: &mut [u8], n: usize) -> usize
-    requires { ⌜ (n ≤ 2048) × (length (now state) ≡ 5120) × (5148 ≤ length (now file)) ⌝ }
+    requires { ⌜ (n ≤ 2048) × (length (now state) ≡ stateLength) × (5148 ≤ length (now file)) ⌝ }
     ensures { λ r. ⌜ (now (state .exit) ≡ ended (now (file .entry)) n)
         × (now (out .exit) ≡ sets (now (out .entry)) 0 (acceptedText (now (file .entry)) n))
         × (r ≡ length (acceptedText (now (file .entry)) n)) ⌝ }
@@ -143,7 +150,7 @@ pub fn print(file: &[u8], state: &mut [u8], out: &mut [u8]) -> Printed
         × (now (out .exit) ≡ outAfter (now (file .entry)) (now (state .entry)) (now (out .entry)))
         × (r ≡ printedAs (now (file .entry)) (now (state .entry)) (now (out .entry))) ⌝ }
 {
-    if state.len() != 5120 {
+    if state.len() != 5128 {
         return Printed::NoRoom;
     }
     if out.len() < 131_072 {

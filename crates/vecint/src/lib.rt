@@ -7,7 +7,7 @@ ghost use lib.IntN.{negℤ};
 ghost use lib.ListN.{length, getD};
 ghost use Rattle.number.specs.Bytes.{span};
 ghost use Rattle.number.specs.Integers.{signed, wrap, kept};
-ghost use Rattle.isa.specs.State.{stateLength};
+ghost use Rattle.isa.specs.State.{registerBytes};
 ghost use Rattle.isa.specs.Operand.{bit};
 ghost use Rattle.isa.specs.Effect.{applied, count, bytesOn};
 ghost use Rattle.isa.specs.Vecint as Vecint;
@@ -120,7 +120,7 @@ fn alu_row16(
     on: &[bool; 64],
     how: Alu,
 )
-    requires { ⌜ (length (now state) ≡ stateLength) × (row < 64) × (q < c) × (c ≤ 2) ⌝ }
+    requires { ⌜ (length (now state) ≡ registerBytes) × (row < 64) × (q < c) × (c ≤ 2) ⌝ }
     ensures { λ _. ⌜ now (state .exit) ≡ applied (rowOf false row q c (now (terms .entry)) (now (on .entry)) how) (now (state .entry)) ⌝ }
 {
     let start = 1024 + row % 64 * 64;
@@ -139,7 +139,7 @@ fn alu_row32(
     on: &[bool; 64],
     how: Alu,
 )
-    requires { ⌜ (length (now state) ≡ stateLength) × (row < 64) × (q < c) × (c ≤ 4) ⌝ }
+    requires { ⌜ (length (now state) ≡ registerBytes) × (row < 64) × (q < c) × (c ≤ 4) ⌝ }
     ensures { λ _. ⌜ now (state .exit) ≡ applied (rowOf true row q c (now (terms .entry)) (now (on .entry)) how) (now (state .entry)) ⌝ }
 {
     let start = 1024 + row % 64 * 64;
@@ -159,7 +159,7 @@ fn alu_row(
     on: &[bool; 64],
     how: Alu,
 )
-    requires { ⌜ (length (now state) ≡ stateLength) × (row < 64) × (q < c) × (zLanes wide * c ≤ 64) ⌝ }
+    requires { ⌜ (length (now state) ≡ registerBytes) × (row < 64) × (q < c) × (zLanes wide * c ≤ 64) ⌝ }
     ensures { λ _. ⌜ now (state .exit) ≡ applied (rowOf wide row q c (now (terms .entry)) (now (on .entry)) how) (now (state .entry)) ⌝ }
 {
     if wide {
@@ -179,7 +179,7 @@ fn alu_rows(
     on: &[bool; 64],
     how: Alu,
 )
-    requires { ⌜ (length (now state) ≡ stateLength) × (base + c ≤ 64) × (zLanes wide * c ≤ 64) ⌝ }
+    requires { ⌜ (length (now state) ≡ registerBytes) × (base + c ≤ 64) × (zLanes wide * c ≤ 64) ⌝ }
     ensures { λ _. ⌜ now (state .exit) ≡ applied (dealt (zBytes wide) base c (λ k. getD (now (on .entry)) k false)
         (accumulate wide how (now (terms .entry)))) (now (state .entry)) ⌝ }
 {
@@ -328,7 +328,7 @@ fn vector_terms(state: &[u8], generation: u64, op: u64, v: usize, how: Alu) -> [
 
 // Vector v of a step in any mode but 4.
 fn alu_vector(state: &mut [u8], generation: u64, op: u64, v: usize, on: &[bool; 64])
-    requires { ⌜ (length (now state) ≡ stateLength) × (v < 64 / Vecint.stride generation op)
+    requires { ⌜ (length (now state) ≡ registerBytes) × (v < 64 / Vecint.stride generation op)
         × (Vecint.reduces op ≡ false) × (now on ≡ vecintMask generation op) ⌝ }
     ensures { λ _. ⌜ now (state .exit) ≡ applied (vectorEffect generation op v (now (state .entry))) (now (state .entry)) ⌝ }
 {
@@ -363,7 +363,7 @@ fn reduce_by(generation: u64, op: u64) -> reduction::Reduce
 
 // Vector v of a step in mode 4: a row of Z.
 fn reduce_vector(state: &mut [u8], generation: u64, op: u64, v: usize, on: &[bool; 64])
-    requires { ⌜ (length (now state) ≡ stateLength) × (v < 64 / Vecint.stride generation op)
+    requires { ⌜ (length (now state) ≡ registerBytes) × (v < 64 / Vecint.stride generation op)
         × (Vecint.reduces op ≡ true) × (now on ≡ vecintMask generation op) ⌝ }
     ensures { λ _. ⌜ now (state .exit) ≡ applied (vectorEffect generation op v (now (state .entry))) (now (state .entry)) ⌝ }
 {
@@ -378,7 +378,7 @@ fn reduce_vector(state: &mut [u8], generation: u64, op: u64, v: usize, on: &[boo
 }
 
 fn vector(state: &mut [u8], generation: u64, op: u64, v: usize, on: &[bool; 64])
-    requires { ⌜ (length (now state) ≡ stateLength) × (v < 64 / Vecint.stride generation op) × (now on ≡ vecintMask generation op) ⌝ }
+    requires { ⌜ (length (now state) ≡ registerBytes) × (v < 64 / Vecint.stride generation op) × (now on ≡ vecintMask generation op) ⌝ }
     ensures { λ _. ⌜ now (state .exit) ≡ applied (vectorEffect generation op v (now (state .entry))) (now (state .entry)) ⌝ }
 {
     if operand::reduces(op) {
@@ -389,7 +389,7 @@ fn vector(state: &mut [u8], generation: u64, op: u64, v: usize, on: &[bool; 64])
 }
 
 fn each_vector(state: &mut [u8], generation: u64, op: u64, on: &[bool; 64])
-    requires { ⌜ (length (now state) ≡ stateLength) × (now on ≡ vecintMask generation op) ⌝ }
+    requires { ⌜ (length (now state) ≡ registerBytes) × (now on ≡ vecintMask generation op) ⌝ }
     ensures { λ _. ⌜ now (state .exit) ≡ applied (Vecint.vecint generation op) (now (state .entry)) ⌝ }
 {
     let vectors = operand::vectors(generation, op);
@@ -418,9 +418,9 @@ fn bytes_enabled(generation: u64, op: u64, mask: u64) -> u64
 
 // vecint on a state of 5,120 bytes, and the count of bytes in enabled lanes; a state of another length stays as it is.
 pub fn step(state: &mut [u8], generation: u64, op: u64) -> u64
-    ensures { λ r. ⌜ (now (state .exit) ≡ cond (eqb (length (now (state .entry))) stateLength)
+    ensures { λ r. ⌜ (now (state .exit) ≡ cond (eqb (length (now (state .entry))) registerBytes)
         (applied (Vecint.vecint generation op) (now (state .entry))) (now (state .entry)))
-        × (r ≡ cond (eqb (length (now (state .entry))) stateLength) (bytesOn (Vecint.vecint generation op)) 0) ⌝ }
+        × (r ≡ cond (eqb (length (now (state .entry))) registerBytes) (bytesOn (Vecint.vecint generation op)) 0) ⌝ }
 {
     if state.len() != 5120 {
         return 0;

@@ -4,19 +4,35 @@ use std::{hint::black_box, time::Instant};
 
 const RUNS: usize = 31;
 
-/// One program over a list of calls.
+/// The host's number of a refusal is at least this; a step whose answer is below it raised the count.
+const REFUSED: u64 = 131_072;
+
+/// One program over a list of calls; the serial due after them.
+type Program = fn(&mut State, &[Call]) -> u64;
+
 fn proved(state: &mut State, calls: &[Call]) -> u64 {
-    calls.iter().map(|&call| step(state, call).number()).sum()
+    send(state.count(), calls, |call, serial| step(state, call, serial).number())
 }
 
 fn second(state: &mut State, calls: &[Call]) -> u64 {
-    calls.iter().map(|call| reference::step(state.bytes_mut(), call.instruction, call.generation, call.operand)).sum()
+    send(state.count(), calls, |call, serial| reference::step(state.bytes_mut(), call.instruction, call.generation, call.operand, serial))
 }
 
-fn seconds(state: &mut State, calls: &[Call], program: fn(&mut State, &[Call]) -> u64) -> f64 {
+/// Every call with the serial due, which the answers tell: no step waits for the count to be read.
+fn send(mut serial: u64, calls: &[Call], mut step: impl FnMut(Call, u64) -> u64) -> u64 {
+    for &call in calls {
+        let taken = step(call, serial) < REFUSED;
+        serial += u64::from(taken);
+    }
+    serial
+}
+
+fn seconds(state: &mut State, calls: &[Call], program: Program) -> f64 {
     let start = Instant::now();
-    black_box(program(black_box(state), black_box(calls)));
-    start.elapsed().as_secs_f64()
+    let due = black_box(program(black_box(state), black_box(calls)));
+    let seconds = start.elapsed().as_secs_f64();
+    assert_eq!(due, state.count(), "a step was sent with another serial than the one due");
+    seconds
 }
 
 fn median(mut times: Vec<f64>) -> f64 {
@@ -24,14 +40,18 @@ fn median(mut times: Vec<f64>) -> f64 {
     times[times.len() / 2]
 }
 
+/// A state at the start of a cache line, so that the rows of both programs lie alike in theirs.
+#[repr(align(64))]
+struct Aligned(State);
+
 /// Times both programs on a list, each run from the same bytes, and checks that both end in the same.
 fn measure(name: &str, start: &State, calls: &[Call]) {
     let mut times = [Vec::new(), Vec::new()];
     for _ in 0..RUNS {
-        let (mut a, mut b) = (start.clone(), start.clone());
-        times[0].push(seconds(&mut a, calls, proved));
-        times[1].push(seconds(&mut b, calls, second));
-        assert!(a == b, "{name}: the two programs end in different states");
+        let (mut a, mut b) = (Aligned(start.clone()), Aligned(start.clone()));
+        times[0].push(seconds(&mut a.0, calls, proved));
+        times[1].push(seconds(&mut b.0, calls, second));
+        assert!(a.0 == b.0, "{name}: the two programs end in different states");
     }
     let [proved, second] = times.map(median);
     let each = 1e9 / calls.len() as f64;
@@ -66,7 +86,7 @@ fn main() -> Result<(), FieldError> {
     form("vecint, mode 5", &start, vecint(5, 0, Vectors::One)?, 4_000);
     let mixed: Vec<Call> = (0..4_000).map(|_| random.known_call()).collect();
     measure("both, 4,000 random calls", &start, &mixed);
-    let works = |&call: &Call| matches!(step(&mut State::new(), call), Answer::Done { bytes: 1.. });
+    let works = |&call: &Call| matches!(step(&mut State::new(), call, 0), Answer::Done { bytes: 1.. });
     let records: Vec<Call> = std::iter::repeat_with(|| random.known_call()).filter(works).take(2_048).collect();
     measure("a whole trace, 2,048 done steps", &start, &records);
     let indexed = Vecint::indexed(Side::X, IndexBits::Four, 3, Vectors::One)?.shift(3)?.x_signed(true)?.y_signed(true)?;

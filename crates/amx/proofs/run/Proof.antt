@@ -16,7 +16,7 @@ returns c =
     let done = c .before .before in
     let test = done .before .before in
     let a = test .before .before .args in
-    ran (a .instruction) (a .generation) (a .operand) (a .state .now) (done .step .last .0) (done .step .result) true
+    ran (a .registers .now) (done .step .last .0) (done .step .result) (a .instruction) (a .generation) (a .operand) true
     (eq-eqb (a .instruction) 14 (test .if1 .taken)) (done .step .ensures)
 
 step-requires-2 : tie.Need-step-requires-2
@@ -30,7 +30,7 @@ returns-2 c =
     let done = c .before .before in
     let test = done .before .before in
     let a = test .before .before .args in
-    ran (a .instruction) (a .generation) (a .operand) (a .state .now) (done .step2 .last .0) (done .step2 .result) false
+    ran (a .registers .now) (done .step2 .last .0) (done .step2 .result) (a .instruction) (a .generation) (a .operand) false
     (ne-eqb (a .instruction) 14 (test .if1 .left)) (done .step2 .ensures)
 
 pub run-spec : {M : Type 1} → statement M

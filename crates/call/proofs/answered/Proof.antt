@@ -1,40 +1,88 @@
 use mathlib.Core.Path.{sym, _∙_}
-use Rattle.call.proofs.Rows.{first-length, first-generation, first-instruction, first-mac16, first-vecint}
+use Rattle.call.proofs.Rows.{first-length, first-generation, first-instruction, first-last, first-serial, first-mac16, first-vecint}
 use borrow.Author.Needs.{needs}
 use Rattle.call.proofs.answered.Statement.{statement}
 use Rattle.call.proofs.answered.Tie as tie
 
--- src/lib.rt:87:9
 returns : tie.Need-returns
-returns c = first-length (c .before .args .length) (c .before .args .instruction) (c .before .args .generation) (c .before .args .operand) (c .if1 .taken)
+returns c =
+    let a = c .before .args in
+    first-length (a .length) (a .count) (a .serial) (a .instruction) (a .generation) (a .operand) (c .if1 .taken)
 
--- src/lib.rt:89:8
 neither-requires : tie.Need-neither-requires
 neither-requires c κs = search needs
 
--- src/lib.rt:90:9
 returns-2 : tie.Need-returns-2
-returns-2 c = first-generation (c .before .before .before .args .length) (c .before .before .before .args .instruction) (c .before .before .before .args .generation) (c .before .before .before .args .operand) (c .before .before .if1 .left) (sym (c .before .neither .ensures) ∙ c .if2 .taken)
+returns-2 c =
+    let length = c .before .before in
+    let a = length .before .args in
+    first-generation (a .length) (a .count) (a .serial) (a .instruction) (a .generation) (a .operand) (length .if1 .left)
+    (sym (c .before .neither .ensures) ∙ c .if2 .taken)
 
--- src/lib.rt:92:8
 neither-requires-2 : tie.Need-neither-requires-2
 neither-requires-2 c κs = search needs
 
--- src/lib.rt:93:9
 returns-3 : tie.Need-returns-3
-returns-3 c = first-instruction (c .before .before .before .before .before .args .length) (c .before .before .before .before .before .args .instruction) (c .before .before .before .before .before .args .generation) (c .before .before .before .before .before .args .operand) (c .before .before .before .before .if1 .left) (sym (c .before .before .before .neither .ensures) ∙ c .before .before .if2 .left) (sym (c .before .neither2 .ensures) ∙ c .if3 .taken)
+returns-3 c =
+    let generation = c .before .before in
+    let length = generation .before .before in
+    let a = length .before .args in
+    first-instruction (a .length) (a .count) (a .serial) (a .instruction) (a .generation) (a .operand) (length .if1 .left)
+    (sym (generation .before .neither .ensures) ∙ generation .if2 .left) (sym (c .before .neither2 .ensures) ∙ c .if3 .taken)
 
--- src/lib.rt:96:9
 returns-4 : tie.Need-returns-4
-returns-4 c = first-mac16 (c .before .before .before .before .before .before .args .length) (c .before .before .before .before .before .before .args .instruction) (c .before .before .before .before .before .before .args .generation) (c .before .before .before .before .before .before .args .operand) (c .before .before .before .before .before .if1 .left) (sym (c .before .before .before .before .neither .ensures) ∙ c .before .before .before .if2 .left) (sym (c .before .before .neither2 .ensures) ∙ c .before .if3 .left) (c .if4 .taken)
+returns-4 c =
+    let instruction = c .before in
+    let generation = instruction .before .before in
+    let length = generation .before .before in
+    let a = length .before .args in
+    first-last (a .length) (a .count) (a .serial) (a .instruction) (a .generation) (a .operand) (length .if1 .left)
+    (sym (generation .before .neither .ensures) ∙ generation .if2 .left)
+    (sym (instruction .before .neither2 .ensures) ∙ instruction .if3 .left)
+    (c .if4 .taken)
 
--- src/lib.rt:98:5
+returns-5 : tie.Need-returns-5
+returns-5 c =
+    let last = c .before in
+    let instruction = last .before in
+    let generation = instruction .before .before in
+    let length = generation .before .before in
+    let a = length .before .args in
+    first-serial (a .length) (a .count) (a .serial) (a .instruction) (a .generation) (a .operand) (length .if1 .left)
+    (sym (generation .before .neither .ensures) ∙ generation .if2 .left)
+    (sym (instruction .before .neither2 .ensures) ∙ instruction .if3 .left)
+    (last .if4 .left) (c .if5 .taken)
+
+returns-6 : tie.Need-returns-6
+returns-6 c =
+    let serial = c .before in
+    let last = serial .before in
+    let instruction = last .before in
+    let generation = instruction .before .before in
+    let length = generation .before .before in
+    let a = length .before .args in
+    first-mac16 (a .length) (a .count) (a .serial) (a .instruction) (a .generation) (a .operand) (length .if1 .left)
+    (sym (generation .before .neither .ensures) ∙ generation .if2 .left)
+    (sym (instruction .before .neither2 .ensures) ∙ instruction .if3 .left)
+    (last .if4 .left) (serial .if5 .left) (c .if6 .taken)
+
 vecint-answered-requires : tie.Need-vecint-answered-requires
 vecint-answered-requires c κs = search needs
 
--- src/lib.rt:83:1
-returns-5 : tie.Need-returns-5
-returns-5 c = c .vecint-answered .ensures ∙ first-vecint (c .before .before .before .before .before .before .before .args .length) (c .before .before .before .before .before .before .before .args .instruction) (c .before .before .before .before .before .before .before .args .generation) (c .before .before .before .before .before .before .before .args .operand) (c .before .before .before .before .before .before .if1 .left) (sym (c .before .before .before .before .before .neither .ensures) ∙ c .before .before .before .before .if2 .left) (sym (c .before .before .before .neither2 .ensures) ∙ c .before .before .if3 .left) (c .before .if4 .left)
+returns-7 : tie.Need-returns-7
+returns-7 c =
+    let mac16 = c .before in
+    let serial = mac16 .before in
+    let last = serial .before in
+    let instruction = last .before in
+    let generation = instruction .before .before in
+    let length = generation .before .before in
+    let a = length .before .args in
+    c .vecint-answered .ensures
+    ∙ first-vecint (a .length) (a .count) (a .serial) (a .instruction) (a .generation) (a .operand) (length .if1 .left)
+    (sym (generation .before .neither .ensures) ∙ generation .if2 .left)
+    (sym (instruction .before .neither2 .ensures) ∙ instruction .if3 .left)
+    (last .if4 .left) (serial .if5 .left) (mac16 .if6 .left)
 
 pub answered-spec : {M : Type 1} → statement M
 answered-spec =
@@ -46,5 +94,7 @@ answered-spec =
     neither-requires-2
     returns-3
     returns-4
+    returns-5
+    returns-6
     vecint-answered-requires
-    returns-5)
+    returns-7)

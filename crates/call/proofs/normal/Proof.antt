@@ -6,37 +6,42 @@ use borrow.Author.Needs.{needs}
 use Rattle.call.proofs.normal.Statement.{statement}
 use Rattle.call.proofs.normal.Tie as tie
 
--- src/lib.rt:214:11
 answered-requires : tie.Need-answered-requires
 answered-requires c κs = search needs
 
--- src/lib.rt:215:54
 enum-told : tie.Need-enum-told
 enum-told c = search needs
 
--- src/lib.rt:215:54
 normal-operand-requires : tie.Need-normal-operand-requires
 normal-operand-requires c κs = search needs
 
--- src/lib.rt:220:27
 enum-known-r : tie.Need-enum-known-r
 enum-known-r c = search needs
 
--- src/lib.rt:221:30
 enum-known-r-2 : tie.Need-enum-known-r-2
 enum-known-r-2 c = search needs
 
--- src/lib.rt:211:1
 returns : tie.Need-returns
-returns c = ap normal.Operand (c .normal-operand .ensures) ∙ normal-by (c .before .before .before .before .args .instruction) (c .before .before .before .before .args .generation) (c .before .before .before .before .args .operand) (c .before .before .before .answered .result) (answer.Done (c .before .enum-told .given .0 .0)) (c .before .before .before .answered .ensures) (c .before .enum-told .given .1)
+returns c =
+    let told = c .before .enum-told .given in
+    let table = c .before .before .before in
+    let a = table .before .args in
+    ap normal.Operand (c .normal-operand .ensures)
+    ∙ normal-by (a .instruction) (a .generation) (a .operand) (table .answered .result) (answer.Done (told .0 .0)) (table .answered .ensures) (told .1)
 
--- src/lib.rt:211:1
 returns-2 : tie.Need-returns-2
-returns-2 c = normal-by (c .before .before .before .before .args .instruction) (c .before .before .before .before .args .generation) (c .before .before .before .before .args .operand) (c .before .before .before .answered .result) (answer.NoOp (c .before .r .given .0 .0)) (c .before .before .before .answered .ensures) (c .before .r .given .1)
+returns-2 c =
+    let told = c .before .r .given in
+    let table = c .before .before .before in
+    let a = table .before .args in
+    normal-by (a .instruction) (a .generation) (a .operand) (table .answered .result) (answer.NoOp (told .0 .0)) (table .answered .ensures) (told .1)
 
--- src/lib.rt:211:1
 returns-3 : tie.Need-returns-3
-returns-3 c = normal-by (c .before .before .before .before .args .instruction) (c .before .before .before .before .args .generation) (c .before .before .before .before .args .operand) (c .before .before .before .answered .result) (answer.Refused (c .before .r2 .given .0 .0)) (c .before .before .before .answered .ensures) (c .before .r2 .given .1)
+returns-3 c =
+    let told = c .before .r2 .given in
+    let table = c .before .before .before in
+    let a = table .before .args in
+    normal-by (a .instruction) (a .generation) (a .operand) (table .answered .result) (answer.Refused (told .0 .0)) (table .answered .ensures) (told .1)
 
 pub normal-spec : {M : Type 1} → statement M
 normal-spec =

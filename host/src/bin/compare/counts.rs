@@ -1,7 +1,8 @@
 //! The bytes that a step counts, for every enable mode, value and lane width.
 use crate::case::Step;
+use crate::sent::count_of;
 use crate::steps::{on_both, pairs};
-use amx::{Call, reference, text::print_call};
+use amx::{Call, REGISTER_BYTES, STATE_LENGTH, reference, text::print_call};
 
 /// Every mode and value of X's mask with every one of Y's, in a vector step, matrix 16 and matrix 32.
 fn mac16() -> Vec<u64> {
@@ -18,7 +19,7 @@ fn vecint() -> Vec<u64> {
 
 /// The positions of Z that lie in lanes that the reference has enabled, one by one.
 fn walked(call: Call) -> u64 {
-    let mut enabled = [false; 5_120];
+    let mut enabled = [false; REGISTER_BYTES];
     for lane in reference::lanes(call.instruction, call.generation, call.operand) {
         enabled[lane.start()..][..lane.bytes].fill(true);
     }
@@ -28,9 +29,10 @@ fn walked(call: Call) -> u64 {
 /// Compares the bytes that a step counts with a walk over Z, in every case. The number of cases.
 pub fn every(step: Step) -> Result<usize, String> {
     let calls: Vec<Call> = on_both(14, mac16()).into_iter().chain(on_both(18, vecint())).collect();
-    let mut state = vec![0; 5_120];
+    let mut state = vec![0; STATE_LENGTH];
     for &call in &calls {
-        let counted = step(&mut state, call);
+        let due = count_of(&state).expect("the length is a state's");
+        let counted = step(&mut state, call, due);
         let walked = walked(call);
         if counted != walked {
             return Err(format!("{} counts {counted} bytes, and {walked} lie in enabled lanes", print_call(call)));
@@ -47,9 +49,9 @@ mod tests {
     #[test]
     fn one_wrong_count_is_found() {
         // one byte short where widths 13, lanes of 16 and 8 bits, have the last 7 of each side
-        fn short(state: &mut [u8], call: Call) -> u64 {
+        fn short(state: &mut [u8], call: Call, serial: u64) -> u64 {
             let wrong = call.instruction == 18 && call.operand == 13 << 42 | 3 << 38 | 7 << 32;
-            second(state, call) - u64::from(wrong)
+            second(state, call, serial) - u64::from(wrong)
         }
         let report = every(short).unwrap_err();
         assert!(report.contains("widths=13") && report.contains("counts 27 bytes, and 28 lie in enabled lanes"), "{report}");

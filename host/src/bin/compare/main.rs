@@ -1,6 +1,7 @@
 //! The proved unit against the reference, on swept and random inputs.
 mod case;
 mod counts;
+mod sent;
 mod steps;
 mod swaps;
 mod traces;
@@ -14,7 +15,7 @@ compare [OPTIONS]: the proved unit against the reference
   --steps N         random steps (400000); sequences, normal operands, swaps and traces follow it
   --trace PROGRAM   the trace program (../target/bin/amx_trace)
   --need-trace      it is an error where the trace program is not there
-A difference ends it with status 1, and with the smallest case found.";
+A difference ends it with status 1, and with the smallest case found; so does an answer that no step met.";
 
 struct Options {
     seed: u64,
@@ -50,28 +51,39 @@ fn compare(options: &Options) -> Result<(), String> {
     let counts = counts::every(case::proved)?;
     println!("{counts} steps, every enable mode, value and lane width: as many bytes counted as a walk over Z finds in enabled lanes");
     let mut tally = steps::Tally::default();
+    let beside = steps::table(case::proved, &mut random(7), &mut tally)?;
+    println!("{beside} steps, the rows of the table beside each other: same bytes, same answers ({})", tally.text());
+    let mut tally = steps::Tally::default();
     let swept = steps::swept(&mut random(0), &mut tally)?;
     println!("{swept} swept steps: same bytes, same answers ({})", tally.text());
     let mut tally = steps::Tally::default();
     let drawn = steps::random(&mut random(1), steps, &mut tally)?;
     println!("{drawn} random steps: same bytes, same answers ({})", tally.text());
     let lists = steps / 400;
-    let sequences = steps::sequences(&mut random(2), lists)?;
-    println!("{sequences} steps in {lists} sequences: same bytes at their ends, same answers");
+    let (sequences, again) = steps::sequences(&mut random(2), lists)?;
+    println!(
+        "{sequences} steps in {lists} sequences: same bytes at their ends, same answers; \
+         the {again} sent with a serial that was used up change no byte"
+    );
     let normals = steps::normals(&mut random(3), steps / 4)?;
-    println!("{normals} normal operands: the reference's, same effect and answer, normal themselves");
+    println!("{normals} normal operands: the reference's, same effect and answer with any serial, normal themselves");
     let swaps = swaps::chains(&mut random(4), steps / 40)?;
     println!(
-        "{} chains of {} allowed swaps ({} apart, {} adding to shared bytes): same bytes, same answers; of {} pairs not allowed {} differ when swapped",
+        "{} chains of {} allowed swaps ({} apart, {} adding to shared bytes): same bytes, same answers; \
+         of {} pairs not allowed by their lanes {} differ when swapped, of {} not allowed by the count {}",
         swaps.chains,
         swaps.apart + swaps.adding,
         swaps.apart,
         swaps.adding,
         swaps.not_allowed,
-        swaps.not_allowed_differ
+        swaps.not_allowed_differ,
+        swaps.no_room,
+        swaps.no_room_differ
     );
     let files = traces::reader(&mut random(5), steps / 200)?;
-    println!("{files} trace files, sound and damaged: this crate reads them as the reference does");
+    println!(
+        "{files} trace files, sound and damaged: this crate reads them as the reference does, and runs end at the count of steps taken"
+    );
     if options.trace.is_file() {
         let files = traces::program(&mut random(6), &options.trace, steps / 1_000)?;
         println!("{files} trace files, sound and damaged: the trace program prints the reference's text");

@@ -1,9 +1,12 @@
 //! Steps one by one and in sequences, and normal operands.
-use crate::case::{Case, agree, difference, proved, second};
-use amx::{Answer, Call, normal, random::Random, random::put, reference};
+use crate::case::{Case, Step, agree, difference, proved, second};
+use crate::sent::{Sent, Serial, count_of, draw_count, draw_state, set_count};
+use amx::{Answer, Call, REGISTER_BYTES, Refusal, STATE_LENGTH, normal, random::Random, random::put, reference};
 use std::collections::BTreeMap;
 
-const LENGTH: usize = 5_120;
+/// Every answer, done with no lane apart. Sweeps of operands, on states of the right length, do not meet the first three.
+const ANSWERS: [&str; 11] =
+    ["refused 1", "refused 2", "refused 3", "refused 4", "refused 8", "refused 9", "no-op 1", "no-op 2", "no-op 3", "done", "done 0"];
 
 /// How often each answer came.
 #[derive(Default)]
@@ -18,6 +21,14 @@ impl Tally {
             None => "no answer".to_owned(),
         };
         *self.0.entry(name).or_default() += 1;
+    }
+
+    /// An error where one of these answers never came: steps that do not meet it compare nothing of it.
+    fn needs(&self, answers: &[&str], steps: &str) -> Result<(), String> {
+        match answers.iter().find(|&&answer| !self.0.contains_key(answer)) {
+            Some(answer) => Err(format!("of the {steps} none was answered {answer}, so that it was not compared")),
+            None => Ok(()),
+        }
     }
 
     pub fn text(&self) -> String {
@@ -36,28 +47,77 @@ impl Pair {
         Pair { second: bytes.clone(), proved: bytes }
     }
 
+    /// A call with the serial due.
     fn step(&mut self, before: &mut Vec<u8>, call: Call, tally: &mut Tally) -> Result<(), String> {
         before.clone_from(&self.proved);
-        let answers = (proved(&mut self.proved, call), second(&mut self.second, call));
+        let due = count_of(before).unwrap_or(0);
+        let answers = (proved(&mut self.proved, call, due), second(&mut self.second, call, due));
         tally.count(answers.0);
         if answers.0 == answers.1 && self.proved == self.second {
             return Ok(());
         }
-        agree("the two programs", &Case { state: before.clone(), calls: vec![call] }, proved, second)
+        agree(PROGRAMS, &Case::due(before.clone(), [call]), proved, second).map(drop)
     }
 }
 
-/// Every step of a list on states that are drawn anew now and then. The number of steps.
+const PROGRAMS: &str = "the two programs";
+
+/// One call on a state of its own.
+fn one(step: Step, state: Vec<u8>, sent: Sent, tally: &mut Tally) -> Result<(), String> {
+    let end = agree(PROGRAMS, &Case { state, sent: vec![sent] }, step, second)?;
+    tally.count(end.answers[0]);
+    Ok(())
+}
+
+/// Every call of a list with the serial due, on states that are drawn anew now and then. One in four is sent to a copy as well, whose count is
+/// drawn, mostly with a wrong serial: what a refused serial hides is compared all the same. The number of steps.
 fn each(random: &mut Random, calls: impl Iterator<Item = Call>, tally: &mut Tally) -> Result<u64, String> {
-    let mut pair = Pair::new(random.bytes(LENGTH));
-    let (mut before, mut count) = (Vec::new(), 0);
+    let mut pair = Pair::new(Vec::new());
+    let (mut before, mut aside, mut count) = (Vec::new(), 0, 0);
     for call in calls {
         if count % 48 == 0 {
-            pair = Pair::new(random.bytes(LENGTH));
+            let taken = if random.once_in(2) { 0 } else { random.bits() };
+            pair = Pair::new(draw_state(random, STATE_LENGTH, taken));
+        }
+        if random.once_in(4) {
+            let mut state = pair.proved.clone();
+            set_count(&mut state, draw_count(random, 4));
+            let serial = if random.once_in(4) { Serial::Due } else { Serial::wrong(random) };
+            one(proved, state, Sent { call, serial }, tally)?;
+            aside += 1;
         }
         pair.step(&mut before, call, tally)?;
         count += 1;
     }
+    Ok(count + aside)
+}
+
+/// The rows of the table of answers beside each other, so that their order shows: lengths, generations, instructions, counts and serials, each
+/// with operands that the rows after them tell apart. The number of steps.
+pub fn table(step: Step, random: &mut Random, tally: &mut Tally) -> Result<u64, String> {
+    const LENGTHS: [usize; 5] = [0, REGISTER_BYTES, STATE_LENGTH - 1, STATE_LENGTH, STATE_LENGTH + 1];
+    const COUNTS: [u64; 8] = [0, 1, 255, (1 << 32) - 1, u64::MAX - 3, u64::MAX - 2, u64::MAX - 1, u64::MAX];
+    const SERIALS: [Serial; 6] =
+        [Serial::Due, Serial::Past(1), Serial::Past(u64::MAX), Serial::Past(1 << 32), Serial::Given(0), Serial::Given(u64::MAX)];
+    // of vecint: done, done with no lane, no-op 1, 2 and 3, refused 4, and no-ops that would be refused 4 next
+    const OPERANDS: [u64; 9] =
+        [1 << 63, 6 << 38, 1 << 54, 7 << 47, 10 << 47, 1 << 27, 1 << 54 | 1 << 27, 7 << 47 | 1 << 27, 10 << 47 | 1 << 27];
+    let mut count = 0;
+    for length in LENGTHS {
+        let bytes = random.bytes(length);
+        for taken in if length == STATE_LENGTH { &COUNTS[..] } else { &COUNTS[..1] } {
+            let mut state = bytes.clone();
+            set_count(&mut state, *taken);
+            for (instruction, generation) in pairs([13, 14, 18, 1 << 32 | 14], 4) {
+                for (operand, serial) in OPERANDS.into_iter().flat_map(|operand| SERIALS.map(|serial| (operand, serial))) {
+                    let call = Call::new(instruction, generation, operand);
+                    one(step, state.clone(), Sent { call, serial }, tally)?;
+                    count += 1;
+                }
+            }
+        }
+    }
+    tally.needs(&ANSWERS, "steps of the table")?;
     Ok(count)
 }
 
@@ -65,7 +125,9 @@ fn each(random: &mut Random, calls: impl Iterator<Item = Call>, tally: &mut Tall
 pub fn swept(random: &mut Random, tally: &mut Tally) -> Result<u64, String> {
     let mac16 = sweep_mac16(random);
     let vecint = sweep_vecint(random);
-    each(random, mac16.into_iter().chain(vecint), tally)
+    let count = each(random, mac16.into_iter().chain(vecint), tally)?;
+    tally.needs(&ANSWERS[3..], "swept steps")?;
+    Ok(count)
 }
 
 /// Z row and the offsets, and nothing that is ignored.
@@ -149,40 +211,85 @@ fn sweep_vecint(random: &mut Random) -> Vec<Call> {
     on_both(18, operands)
 }
 
-/// Random calls, unknown instructions and generations and wrong lengths among them.
+/// Random calls, unknown instructions and generations, wrong serials and wrong lengths among them.
 pub fn random(random: &mut Random, steps: u64, tally: &mut Tally) -> Result<u64, String> {
     let mut calls = Random::new(random.bits());
-    each(random, (0..steps).map(|_| calls.call()), tally)?;
+    let count = each(random, (0..steps).map(|_| calls.call()), tally)?;
     let wrong_lengths = steps / 40;
-    let mut before = Vec::new();
     for _ in 0..wrong_lengths {
         let length = match random.below(4) {
-            0 => random.pick(&[0, 1, 1_024, 5_119, 5_121, 5_128, 10_240]),
+            0 => random.pick(&[0, 1, 1_024, REGISTER_BYTES, STATE_LENGTH - 1, STATE_LENGTH, STATE_LENGTH + 1, 10_240]),
             _ => random.below(6_000) as usize,
         };
-        Pair::new(random.bytes(length)).step(&mut before, random.call(), tally)?;
+        let taken = draw_count(random, 4);
+        let state = draw_state(random, length, taken);
+        let sent = Sent { call: random.call(), serial: Serial::wrong(random) };
+        one(proved, state, sent, tally)?;
     }
-    Ok(steps + wrong_lengths)
+    tally.needs(&ANSWERS, &format!("{steps} random steps"))?;
+    Ok(count + wrong_lengths)
 }
 
-/// Lists of calls, each on one state from its start to its end.
-pub fn sequences(random: &mut Random, lists: u64) -> Result<u64, String> {
-    let mut count = 0;
+/// A list of calls, among them some that are sent again, others with a serial that was used up, and others with a wrong one.
+fn draw_sequence(random: &mut Random) -> Case {
+    let length = if random.once_in(32) { 0 } else { 1 + random.below(120) };
+    let bytes = if random.once_in(32) { random.below(6_000) as usize } else { STATE_LENGTH };
+    let taken = draw_count(random, 120);
+    let mut case = Case { state: draw_state(random, bytes, taken), sent: Vec::new() };
+    for _ in 0..length {
+        let call = random.call();
+        case.sent.push(match random.below(24) {
+            0 => Sent { call: case.sent.last().map_or(call, |last| last.call), serial: Serial::Used(0) },
+            1 => Sent { call, serial: Serial::Used(random.below(40) as usize) },
+            2 => Sent { call, serial: Serial::wrong(random) },
+            _ => Sent::due(call),
+        });
+    }
+    case
+}
+
+/// Lists of calls, each on one state from its start to its end. The number of steps, and of those sent with a serial that was used up.
+pub fn sequences(random: &mut Random, lists: u64) -> Result<(u64, u64), String> {
+    let (mut count, mut again) = (0, 0);
     for _ in 0..lists {
-        let length = if random.once_in(32) { 0 } else { 1 + random.below(120) };
-        let bytes = if random.once_in(32) { random.below(6_000) as usize } else { LENGTH };
-        let case = Case { state: random.bytes(bytes), calls: (0..length).map(|_| random.call()).collect() };
+        let case = draw_sequence(random);
+        again += sent_again(&case, proved).map_err(|fault| {
+            let smallest = case.clone().shrink(&|case| sent_again(case, proved).is_err());
+            let fault = sent_again(&smallest, proved).err().unwrap_or(fault);
+            format!("{fault}; the smallest case found:\n{}\n", smallest.describe())
+        })?;
         agree("sequences of calls", &case, proved, second)?;
-        count += length;
+        count += case.sent.len() as u64;
     }
-    Ok(count)
+    Ok((count, again))
 }
 
-/// Normal operands: the reference's, of the same answer and effect, and normal themselves.
+/// The steps of a list that are sent with a serial that was used up: how many, or the first that changes a byte or is not refused for it.
+fn sent_again(case: &Case, step: Step) -> Result<u64, String> {
+    let (mut run, mut again) = (case.start(), 0);
+    for (place, &sent) in case.sent.iter().enumerate() {
+        let before = run.used.contains(&sent.serial.number(&run.state, &run.used)).then(|| run.state.clone());
+        let answer = Answer::from_number(run.send(step, sent));
+        let Some(before) = before else { continue };
+        again += 1;
+        let refused =
+            matches!(answer, Some(Answer::Refused(Refusal::Serial | Refusal::LastCount | Refusal::Generation | Refusal::Instruction)));
+        if !refused || run.state != before {
+            let changed = if run.state == before { "changes nothing" } else { "changes the state" };
+            return Err(format!("step {place}, sent with a serial that was used up, is answered {answer:?} and {changed}"));
+        }
+    }
+    Ok(again)
+}
+
+/// Normal operands: the reference's, of the same answer and effect on any state with any serial, and normal themselves.
 pub fn normals(random: &mut Random, count: u64) -> Result<u64, String> {
     for n in 0..count {
-        let state = if n % 64 == 0 { vec![0; LENGTH] } else { random.bytes(LENGTH) };
-        let case = Case { state, calls: vec![random.call()] };
+        let length = if random.once_in(64) { random.below(6_000) as usize } else { STATE_LENGTH };
+        let taken = draw_count(random, 4);
+        let state = if n % 64 == 0 { vec![0; STATE_LENGTH] } else { draw_state(random, length, taken) };
+        let serial = if random.once_in(16) { Serial::wrong(random) } else { Serial::Due };
+        let case = Case { state, sent: vec![Sent { call: random.call(), serial }] };
         if let Some(fault) = normal_fault(&case) {
             let smallest = case.shrink(&|case| normal_fault(case).is_some());
             let fault = normal_fault(&smallest).unwrap_or(fault);
@@ -193,7 +300,7 @@ pub fn normals(random: &mut Random, count: u64) -> Result<u64, String> {
 }
 
 fn normal_fault(case: &Case) -> Option<String> {
-    let [call] = case.calls[..] else { return None };
+    let [Sent { call, serial }] = case.sent[..] else { return None };
     let given = normal(call);
     let expected = reference::normal(call.instruction, call.generation, call.operand);
     if given.map_err(Answer::number) != expected {
@@ -204,9 +311,144 @@ fn normal_fault(case: &Case) -> Option<String> {
     if normal(again) != Ok(operand) {
         return Some(format!("the normal operand {operand:#x} is not normal"));
     }
-    let normalised = Case { state: case.state.clone(), calls: vec![again] };
+    let normalised = Case { state: case.state.clone(), sent: vec![Sent { call: again, serial }] };
     let (plain, normal) = (case.run(proved), normalised.run(proved));
-    let same = plain == normal && plain.answers[0] < 65_536;
-    (!same)
-        .then(|| format!("the normal operand {operand:#x} does something else:\n{}", difference(["as given", "normal"], [&plain, &normal])))
+    if plain != normal {
+        let found = difference(["as given", "normal"], [&plain, &normal]);
+        return Some(format!("the normal operand {operand:#x} does something else:\n{found}"));
+    }
+    // a call that has a normal operand is done where its serial is due
+    let answer = plain.answers[0];
+    let due = count_of(&case.state).is_some_and(|count| count != u64::MAX && serial.number(&case.state, &[]) == count);
+    let words = if due { "due" } else { "not due" };
+    (due != (answer < 65_536)).then(|| format!("a call that has a normal operand, with a serial that is {words}, is answered {answer}"))
+}
+
+#[cfg(test)]
+mod tests {
+    use super::*;
+    use crate::case::REFUSED;
+
+    fn taken(state: &[u8]) -> u64 {
+        count_of(state).unwrap_or(0)
+    }
+
+    /// What a call is answered where its serial is the one due.
+    fn by_call(call: Call) -> u64 {
+        reference::normal(call.instruction, call.generation, call.operand).err().unwrap_or(0)
+    }
+
+    fn serial_before_last_count(state: &mut [u8], call: Call, serial: u64) -> u64 {
+        match second(state, call, serial) {
+            answer if answer == REFUSED + 9 && serial != u64::MAX => REFUSED + 8,
+            answer => answer,
+        }
+    }
+
+    fn serial_before_instruction(state: &mut [u8], call: Call, serial: u64) -> u64 {
+        match second(state, call, serial) {
+            answer if answer == REFUSED + 3 && serial != taken(state) => REFUSED + 8,
+            answer => answer,
+        }
+    }
+
+    fn serial_after_no_ops(state: &mut [u8], call: Call, serial: u64) -> u64 {
+        match second(state, call, serial) {
+            answer if answer == REFUSED + 8 && (1..REFUSED).contains(&by_call(call)) => by_call(call),
+            answer => answer,
+        }
+    }
+
+    fn serial_after_shuffles(state: &mut [u8], call: Call, serial: u64) -> u64 {
+        match second(state, call, serial) {
+            answer if answer == REFUSED + 8 && by_call(call) == REFUSED + 4 => REFUSED + 4,
+            answer => answer,
+        }
+    }
+
+    fn refusal_counts(state: &mut [u8], call: Call, serial: u64) -> u64 {
+        let answer = second(state, call, serial);
+        if answer == REFUSED + 4 {
+            set_count(state, serial + 1);
+        }
+        answer
+    }
+
+    fn no_op_does_not_count(state: &mut [u8], call: Call, serial: u64) -> u64 {
+        let answer = second(state, call, serial);
+        if (65_536..REFUSED).contains(&answer) {
+            set_count(state, serial);
+        }
+        answer
+    }
+
+    fn count_wraps(state: &mut [u8], call: Call, serial: u64) -> u64 {
+        let last = taken(state) == u64::MAX && serial == u64::MAX;
+        if last {
+            set_count(state, 0);
+        }
+        let answer = second(state, call, if last { 0 } else { serial });
+        if last {
+            set_count(state, if answer < REFUSED { 0 } else { u64::MAX });
+        }
+        answer
+    }
+
+    fn low_half_of_the_serial(state: &mut [u8], call: Call, serial: u64) -> u64 {
+        let same = serial as u32 == taken(state) as u32;
+        second(state, call, if same { taken(state) } else { serial })
+    }
+
+    fn length_of_the_registers(state: &mut [u8], call: Call, serial: u64) -> u64 {
+        match second(state, call, serial) {
+            _ if state.len() == REGISTER_BYTES => by_call(call),
+            answer => answer,
+        }
+    }
+
+    fn serials_ignored(state: &mut [u8], call: Call, _: u64) -> u64 {
+        second(state, call, taken(state))
+    }
+
+    #[test]
+    fn the_table_finds_what_is_wrong_about_serials() {
+        let found = |step| table(step, &mut Random::new(1), &mut Tally::default());
+        for (step, difference) in [
+            (serial_before_last_count as Step, "answer 0: proved 131080, reference 131081"),
+            (serial_before_instruction, "answer 0: proved 131080, reference 131075"),
+            (serial_after_no_ops, "answer 0: proved 65537, reference 131080"),
+            (serial_after_shuffles, "answer 0: proved 131076, reference 131080"),
+            (refusal_counts, "count: proved 1, reference 0"),
+            (no_op_does_not_count, "count: proved 0, reference 1"),
+            (count_wraps, "reference 131081\n  count: proved 0, reference 18446744073709551615"),
+            (low_half_of_the_serial, "serial 4294967296 after the one due\n  answer 0: proved 2048, reference 131080"),
+            (length_of_the_registers, "a state of 5120 bytes"),
+            (serials_ignored, "serial 1 after the one due"),
+        ] {
+            let report = found(step).unwrap_err();
+            assert!(report.contains(difference), "{difference}: {report}");
+        }
+        assert!(found(second).is_ok());
+    }
+
+    #[test]
+    fn a_step_that_is_taken_twice_is_found() {
+        let call = Call::new(14, 1, 1 << 63);
+        let again = |serial| Sent { call, serial };
+        let case = |sent: &[Sent]| Case { state: vec![1; STATE_LENGTH], sent: sent.to_vec() };
+        let retried = case(&[Sent::due(call), again(Serial::Used(0)), Sent::due(call), again(Serial::Used(1))]);
+        assert_eq!(sent_again(&retried, second), Ok(2));
+        assert!(sent_again(&retried, serials_ignored).unwrap_err().contains("step 1, sent with a serial that was used up"));
+        // a state of another length uses no serial up
+        let short = Case { state: vec![1; REGISTER_BYTES], ..retried };
+        assert_eq!(sent_again(&short, second), Ok(0));
+    }
+
+    #[test]
+    fn an_answer_that_was_never_met_is_told() {
+        let mut tally = Tally::default();
+        (0..4).for_each(|refusal| tally.count(REFUSED + 1 + refusal));
+        assert_eq!(tally.needs(&ANSWERS[..4], "steps"), Ok(()));
+        assert!(tally.needs(&ANSWERS, "steps").unwrap_err().contains("of the steps none was answered refused 8"));
+    }
 }

@@ -1,20 +1,24 @@
 //! Lists of calls rearranged by chains of allowed swaps of neighbours.
-use crate::case::{Case, End, difference, proved};
-use amx::{Call, random::Random, reference};
+use crate::case::{Case, End, REFUSED, difference, proved};
+use crate::sent::{Sent, count_of, draw_count, draw_state, set_count};
+use amx::{Call, STATE_LENGTH, random::Random, reference};
 
-/// What decides whether a call may be swapped, by the reference: the bytes of each row in enabled lanes, and the lane width if it only adds.
+/// What decides whether a call may be swapped, by the reference: the bytes of each row in enabled lanes, and the lane width if it only adds;
+/// and whether it raises the count.
 #[derive(Clone, Copy)]
 struct Reach {
     rows: [u64; 64],
     adds: Option<usize>,
+    raises: bool,
 }
 
 impl Reach {
     fn of(length: usize, call: Call) -> Self {
         let Call { instruction, generation, operand } = call;
-        let mut reach = Reach { rows: [0; 64], adds: None };
+        let mut reach = Reach { rows: [0; 64], adds: None, raises: false };
         // on another length every call is refused, and a refused step enables no lane
-        if length == 5_120 {
+        if length == STATE_LENGTH {
+            reach.raises = reference::normal(instruction, generation, operand).err().is_none_or(|answer| answer < REFUSED);
             for lane in reference::lanes(instruction, generation, operand) {
                 let bytes = (1 << lane.bytes) - 1;
                 reach.rows[lane.row] |= bytes << (lane.bytes * lane.lane);
@@ -31,8 +35,19 @@ impl Reach {
     }
 }
 
+/// Whether the lanes of two calls allow a swap.
 fn allowed(a: &Reach, b: &Reach) -> bool {
     !a.meets(b) || (a.adds.is_some() && a.adds == b.adds)
+}
+
+/// Whether the count before two calls allows a swap: both can be taken. Where there is no count, none is needed.
+fn has_room(count: Option<u64>) -> bool {
+    count.is_none_or(|count| count <= u64::MAX - 2)
+}
+
+/// The count after these calls; the last one stays.
+fn raised<'a>(count: Option<u64>, calls: impl Iterator<Item = &'a Reach>) -> Option<u64> {
+    Some(count?.saturating_add(calls.filter(|reach| reach.raises).count() as u64))
 }
 
 /// What was swapped.
@@ -43,14 +58,19 @@ pub struct Swaps {
     pub adding: u64,
     pub not_allowed: u64,
     pub not_allowed_differ: u64,
+    pub no_room: u64,
+    pub no_room_differ: u64,
 }
 
 /// Runs random lists before and after random chains.
 pub fn chains(random: &mut Random, lists: u64) -> Result<Swaps, String> {
     let mut swaps = Swaps::default();
     for n in 0..lists {
-        let length = if random.once_in(64) { random.below(6_000) as usize } else { 5_120 };
-        let case = Case { state: random.bytes(length), calls: draw_list(random, n % 2 == 0) };
+        let length = if random.once_in(64) { random.below(6_000) as usize } else { STATE_LENGTH };
+        // one list in four begins at one of the last counts, so that some end at the last one
+        let count = draw_count(random, 24);
+        let state = draw_state(random, length, count);
+        let case = Case::due(state, draw_list(random, n % 2 == 0));
         chain(random, &case, &mut swaps)?;
         swaps.chains += 1;
     }
@@ -76,23 +96,31 @@ fn draw_list(random: &mut Random, adding: bool) -> Vec<Call> {
 }
 
 fn chain(random: &mut Random, case: &Case, swaps: &mut Swaps) -> Result<(), String> {
-    let reach: Vec<Reach> = case.calls.iter().map(|&call| Reach::of(case.state.len(), call)).collect();
+    let reach: Vec<Reach> = case.sent.iter().map(|sent| Reach::of(case.state.len(), sent.call)).collect();
     // the list as it is by now, by places in the list as it was
-    let mut order: Vec<usize> = (0..case.calls.len()).collect();
+    let mut order: Vec<usize> = (0..case.sent.len()).collect();
     for _ in 0..if order.len() < 2 { 0 } else { random.below(60) } {
         let at = random.below(order.len() as u64 - 1) as usize;
         let (a, b) = (&reach[order[at]], &reach[order[at + 1]]);
-        if allowed(a, b) {
+        let count = raised(count_of(&case.state), order[..at].iter().map(|&place| &reach[place]));
+        // pairs that are not allowed are not asked for, but they tell whether the rule allows too little
+        let differs = || {
+            let mut pair = Case { state: case.state.clone(), sent: vec![case.sent[order[at]], case.sent[order[at + 1]]] };
+            count.into_iter().for_each(|count| set_count(&mut pair.state, count));
+            u64::from(swapped_differs(&pair))
+        };
+        if !has_room(count) {
+            swaps.no_room += 1;
+            swaps.no_room_differ += differs();
+        } else if allowed(a, b) {
             *(if a.meets(b) { &mut swaps.adding } else { &mut swaps.apart }) += 1;
             order.swap(at, at + 1);
         } else if swaps.not_allowed < 20_000 {
-            // not asked for, but it tells whether the rule allows too little
             swaps.not_allowed += 1;
-            let pair = Case { state: case.state.clone(), calls: vec![case.calls[order[at]], case.calls[order[at + 1]]] };
-            swaps.not_allowed_differ += u64::from(swapped_differs(&pair));
+            swaps.not_allowed_differ += differs();
         }
     }
-    let rearranged = Case { state: case.state.clone(), calls: order.iter().map(|&place| case.calls[place]).collect() };
+    let rearranged = Case { state: case.state.clone(), sent: order.iter().map(|&place| case.sent[place]).collect() };
     let (plain, mut swapped) = (case.run(proved), rearranged.run(proved));
     put_back(&mut swapped, &order);
     if plain == swapped {
@@ -109,7 +137,7 @@ fn put_back(end: &mut End, order: &[usize]) {
 }
 
 fn both_ways(pair: &Case) -> (End, End) {
-    let turned = Case { state: pair.state.clone(), calls: pair.calls.iter().rev().copied().collect() };
+    let turned = Case { state: pair.state.clone(), sent: pair.sent.iter().rev().copied().collect() };
     let mut turned = turned.run(proved);
     turned.answers.reverse();
     (pair.run(proved), turned)
@@ -123,16 +151,17 @@ fn swapped_differs(pair: &Case) -> bool {
 /// The smallest pair that may be swapped and differs, or the whole list where no pair alone shows it.
 fn report(case: &Case, order: &[usize]) -> String {
     let fails = |pair: &Case| {
-        let [a, b] = pair.calls[..] else { return false };
-        allowed(&Reach::of(pair.state.len(), a), &Reach::of(pair.state.len(), b)) && swapped_differs(pair)
+        let [Sent { call: a, .. }, Sent { call: b, .. }] = pair.sent[..] else { return false };
+        let lanes_allow = allowed(&Reach::of(pair.state.len(), a), &Reach::of(pair.state.len(), b));
+        lanes_allow && has_room(count_of(&pair.state)) && swapped_differs(pair)
     };
     // sorting the new order by swaps of neighbours takes back only pairs that the chain has swapped
     let mut order = order.to_vec();
     for end in (1..order.len()).rev() {
         for at in 0..end {
             if order[at] > order[at + 1] {
-                let before = Case { state: case.state.clone(), calls: order[..at].iter().map(|&place| case.calls[place]).collect() };
-                let pair = Case { state: before.run(proved).state, calls: vec![case.calls[order[at]], case.calls[order[at + 1]]] };
+                let before = Case { state: case.state.clone(), sent: order[..at].iter().map(|&place| case.sent[place]).collect() };
+                let pair = Case { state: before.run(proved).state, sent: vec![case.sent[order[at]], case.sent[order[at + 1]]] };
                 if fails(&pair) {
                     let smallest = pair.shrink(&fails);
                     let (plain, turned) = both_ways(&smallest);
@@ -151,7 +180,7 @@ mod tests {
     use super::*;
 
     fn reach(operand: u64) -> Reach {
-        Reach::of(5_120, Call::new(14, 1, operand))
+        Reach::of(STATE_LENGTH, Call::new(14, 1, operand))
     }
 
     #[test]
@@ -164,7 +193,7 @@ mod tests {
         assert!(!allowed(&vector, &reach(1 << 63 | 1 << 27)));
         assert!(allowed(&vector, &reach(1 << 63 | 1 << 27 | 1 << 20)));
         // saturating sums don't swap, and a call that is not done may be swapped with any
-        let vecint = |operand| Reach::of(5_120, Call::new(18, 1, operand));
+        let vecint = |operand| Reach::of(STATE_LENGTH, Call::new(18, 1, operand));
         assert!(!allowed(&vecint(5 << 47), &vecint(5 << 47)));
         assert!(allowed(&vecint(5 << 47), &vecint(1 << 54)));
         // an output that is forced to 0 does not add, X read as 0 does
@@ -176,6 +205,34 @@ mod tests {
             assert!(!allowed(&vecint(1 << 53 | fields << 47 | 3 << 32), &vecint(0)));
         }
         // on another length any two
-        assert!(allowed(&Reach::of(5_119, Call::new(14, 1, 0)), &Reach::of(5_119, Call::new(14, 1, 1 << 62))));
+        let short = |operand| Reach::of(STATE_LENGTH - 1, Call::new(14, 1, operand));
+        assert!(allowed(&short(0), &short(1 << 62)) && has_room(None));
+    }
+
+    #[test]
+    fn a_swap_needs_room_for_both_steps() {
+        let (adding, no_op, refused) = (Call::new(14, 1, 1 << 63), Call::new(18, 1, 1 << 54), Call::new(15, 1, 0));
+        let differs = |count, a, b| {
+            let mut pair = Case::due(vec![1; STATE_LENGTH], [a, b]);
+            set_count(&mut pair.state, count);
+            swapped_differs(&pair)
+        };
+        for (count, room) in [(u64::MAX - 2, true), (u64::MAX - 1, false), (u64::MAX, false)] {
+            assert_eq!(has_room(Some(count)), room);
+        }
+        let other = Call { operand: 1 << 63 | 64, ..adding };
+        assert!(!differs(u64::MAX - 2, adding, other) && !differs(u64::MAX - 2, adding, no_op));
+        // of two steps only the first is taken at 2^64 - 2, and the other is refused 9: their answers tell which
+        assert!(differs(u64::MAX - 1, adding, other) && differs(u64::MAX - 1, adding, no_op));
+        assert!(!differs(u64::MAX - 1, adding, refused) && !differs(u64::MAX, adding, other));
+    }
+
+    #[test]
+    fn the_count_is_raised_by_what_is_not_refused() {
+        let list = [Call::new(14, 1, 0), Call::new(18, 1, 1 << 54), Call::new(18, 1, 1 << 27), Call::new(15, 1, 0), Call::new(14, 0, 0)];
+        let reach = |length| list.map(|call| Reach::of(length, call));
+        assert_eq!(raised(Some(5), reach(STATE_LENGTH).iter()), Some(7));
+        assert_eq!(raised(Some(u64::MAX - 1), reach(STATE_LENGTH).iter()), Some(u64::MAX));
+        assert_eq!(raised(None, reach(STATE_LENGTH - 1).iter()), None);
     }
 }

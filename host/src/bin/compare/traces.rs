@@ -1,6 +1,6 @@
 //! Trace files, sound and damaged: this crate's reader and the trace program against the reference's text.
 use crate::case::Case;
-use amx::{Record, State, Trace, random::Random, reference};
+use amx::{REGISTER_BYTES, Record, State, Trace, random::Random, reference};
 use std::{fs, io, path::Path, path::PathBuf, process::Command};
 
 /// What is done to a sound file.
@@ -59,10 +59,10 @@ impl Damage {
 }
 
 fn file_of(case: &Case, damage: &Damage) -> Vec<u8> {
-    let mut bytes = [0; amx::STATE_LENGTH];
-    bytes.copy_from_slice(&case.state);
-    let mut trace = Trace::new(State::from_bytes(bytes));
-    for call in &case.calls {
+    let mut start = State::new();
+    start.registers_mut().copy_from_slice(&case.state[..REGISTER_BYTES]);
+    let mut trace = Trace::new(start);
+    for call in case.sent.iter().map(|sent| sent.call) {
         // a record holds bytes: the low ones of odd numbers are as odd
         let record = Record { instruction: call.instruction as u8, generation: call.generation as u8, operand: call.operand };
         trace.push(record).expect("no more records are drawn");
@@ -78,7 +78,8 @@ fn draw(random: &mut Random) -> (Case, Damage) {
         1 => 2_048,
         _ => random.below(24),
     };
-    (Case { state: random.bytes(amx::STATE_LENGTH), calls: (0..records).map(|_| random.call()).collect() }, Damage::draw(random))
+    let state = random.state().bytes().to_vec();
+    (Case::due(state, (0..records).map(|_| random.call())), Damage::draw(random))
 }
 
 /// The text of a file by this crate's reader and the proved step.
@@ -87,6 +88,17 @@ fn read_text(file: &[u8]) -> String {
         Ok(trace) => trace.text(),
         Err(refusal) => format!("{refusal}\n"),
     }
+}
+
+/// The count that a run ends at, where a file is accepted.
+fn end_count(file: &[u8]) -> Option<u64> {
+    Trace::from_bytes(file).ok().map(|trace| trace.run().0.count())
+}
+
+/// The steps of a text that raise the count: those that are not refused.
+fn taken(text: &str) -> Option<u64> {
+    let steps = text.lines().filter(|line| line.starts_with("step ") && !line.contains("refused"));
+    (!text.starts_with("file refused")).then(|| steps.count() as u64)
 }
 
 /// Compares texts with the reference's; an error is the report of the smallest case found.
@@ -115,7 +127,12 @@ fn same_text(what: &str, case: Case, damage: &Damage, text: &dyn Fn(&[u8]) -> St
 pub fn reader(random: &mut Random, files: u64) -> Result<u64, String> {
     for _ in 0..files {
         let (case, damage) = draw(random);
+        let file = file_of(&case, &damage);
         same_text("this crate's reader", case, &damage, &read_text)?;
+        let (count, taken) = (end_count(&file), taken(&reference::trace(&file)));
+        if count != taken {
+            return Err(format!("a run ends at count {count:?}, and by the reference's text {taken:?} steps were taken ({damage:?})\n"));
+        }
     }
     Ok(files)
 }
