@@ -20,6 +20,7 @@ use Rattle.isa.specs.Answers.{Row, rowsAbove, firstOf, answerBy, answerOf, take
 use Rattle.isa.specs.Step.{stepped}
 use Rattle.isa.specs.Mac16.{mac16}
 use Rattle.isa.specs.Vecint.{vecint}
+use Rattle.isa.proofs.Rows.{AllRows}
 use Rattle.isa.proofs.Registers.{length-registers}
 use Rattle.isa.proofs.Applied.{length-applied}
 use Rattle.isa.proofs.Step.{met, stepped-as}
@@ -61,8 +62,7 @@ counted (Refused r) n = Refused r
 
 -- no row of the table says done
 abbrev NoneDone : List Row → Type 0
-NoneDone [] = Unit {0}
-NoneDone (r ∷ rows) = ((n : ℕ) → counted (r .answer) n ≡ r .answer) × NoneDone rows
+NoneDone = AllRows (λ (a : Answer). (n : ℕ) → counted a n ≡ a)
 
 recounted : (rows : List Row) → NoneDone rows → (m n : ℕ) → counted (firstOf rows (Done m)) n ≡ firstOf rows (Done n)
 recounted [] h m n = refl

@@ -2,7 +2,6 @@
 -- Assumes nothing.
 use mathlib.Core.Path.{_≡_, refl, sym, ap, ap₂, _∙_}
 use mathlib.Core.Bool.{Bool, true, false, cond, _&&_}
-use mathlib.Core.List.{List, [], _∷_}
 use mathlib.Core.Logic.{⊎-elim}
 use Prim.Native.Nat.{ℕ, zero, suc, _+_, _*_, _≤_, _<_}
 use native.Mathlib.Nat.{add-zero, add-suc, suc-mul, mul-add, mul-comm, zero-mul, zero-add}
@@ -10,16 +9,18 @@ use native.Mathlib.Omega.{arith}
 use lib.Dec.{eqb}
 use lib.ListN.{length}
 use borrow.Author.Tests.{ne-eqb, eqb-true, eqb-false}
+use Rattle.isa.specs.declared.Answer.{Answer}
 use Rattle.isa.specs.declared.Answer.the-variants.{Done}
 use Rattle.isa.specs.State.{lanesOf, start, countOf}
 use Rattle.isa.specs.Effect.{Effect, touches, sum, count, bytesOn, lanesOn, Fills}
 use Rattle.isa.specs.Call.{Call, effectOf}
-use Rattle.isa.specs.Answers.{Row, rowsAbove, firstOf, answerBy, isDone}
+use Rattle.isa.specs.Answers.{rowsAbove, answerBy, isDone}
 use Rattle.isa.specs.Demands.{DoneCounted}
 use Rattle.number.proofs.Tests.{true-false, two, either, pick-true, pick-false, lt-or-le}
 use Rattle.isa.proofs.Place.{lanes-fill, start-row, start-lane, start-in}
 use Rattle.isa.proofs.Applied.{not-xy, touches-in}
 use Rattle.isa.proofs.Lawful.{fills}
+use Rattle.isa.proofs.Rows.{first-all}
 
 -- ---- sums
 
@@ -159,23 +160,19 @@ bytes-of e (m, fit) n counted = ap (λ (k : ℕ). k * e .width) counted ∙ sym 
 
 -- ---- the answer
 
--- no row above the last answers done
-Above : List Row → Type 0
-Above [] = Unit {0}
-Above (r ∷ rs) = (isDone (r .answer) ≡ false) × Above rs
-
-last-row : (rs : List Row) (m n : ℕ) → Above rs → firstOf rs (Done m) ≡ Done n → n ≡ m
-unfolding Above
-last-row [] m n a e = cc
-last-row (r ∷ rs) m n a e =
-    two (r .applies) (n ≡ m)
-    (λ t. absurd (true-false (sym (ap isDone (sym (pick-true (r .answer) (firstOf rs (Done m)) t) ∙ e)) ∙ a .0)))
-    (λ t. last-row rs m n (a .1) (sym (pick-false (r .answer) (firstOf rs (Done m)) t) ∙ e))
-
 done-bytes : (c : Call) (size count serial n : ℕ) → answerBy size count serial c ≡ Done n → n ≡ bytesOn (effectOf c)
-unfolding answerBy Above
-done-bytes c size count serial n e =
-    last-row (rowsAbove size count serial c) (bytesOn (effectOf c)) n (refl, (refl, (refl, (refl, (refl, (refl, (refl, (refl, (refl, tt))))))))) e
+unfolding answerBy
+done-bytes c size count serial n =
+    first-all (λ a. a ≡ Done n → n ≡ bytes) (rowsAbove size count serial c) (Done bytes)
+    (no _ refl, (no _ refl, (no _ refl, (no _ refl, (no _ refl, (no _ refl, (no _ refl, (no _ refl, (no _ refl, tt)))))))))
+    (λ e. cc)
+  where
+    bytes : ℕ
+    bytes = bytesOn (effectOf c)
+
+    -- no row above the last answers done
+    no : (a : Answer) → isDone a ≡ false → a ≡ Done n → n ≡ bytes
+    no a f e = absurd (true-false (sym (ap isDone e) ∙ f))
 
 pub done-counted : DoneCounted
 done-counted c serial s n e =

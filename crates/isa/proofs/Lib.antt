@@ -2,6 +2,7 @@ pub mod Place
 pub mod Applied
 pub mod Commute
 pub mod Lawful
+pub mod Rows
 pub mod Registers
 pub mod Step
 pub mod Rearranged

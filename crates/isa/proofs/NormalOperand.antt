@@ -1,9 +1,9 @@
 -- The normal operand gives the operand's answers and states, and is its own normal operand.
 -- Assumes nothing.
 use mathlib.Core.Path.{_≡_, refl, sym, ap, ap₂, _∙_, subst}
-use mathlib.Core.Bool.{Bool, true, false, cond, not, _&&_, _||_}
+use mathlib.Core.Bool.{Bool, true, false, cond, not, _&&_}
 use mathlib.Core.List.{List, [], _∷_}
-use mathlib.Core.Logic.{_⊎_, inl, inr}
+use mathlib.Core.Logic.{_⊎_, inl, inr, ⊎-elim}
 use Prim.Native.Nat.{ℕ}
 use lib.Dec.{eqb}
 use lib.ListN.{length}
@@ -12,7 +12,6 @@ use Rattle.isa.specs.declared.Answer.{Answer}
 use Rattle.isa.specs.declared.Answer.the-variants.{Done, NoOp, Refused}
 use Rattle.isa.specs.declared.Refusal.{Refusal}
 use Rattle.isa.specs.declared.Refusal.the-variants.{StateLength, Serial, LastCount}
-use Rattle.isa.specs.declared.Normal.{Normal}
 use Rattle.isa.specs.declared.Normal.the-variants as normal
 use Rattle.isa.specs.Operand.{bits}
 use Rattle.isa.specs.State.{stateLength, countOf, lastCount}
@@ -20,14 +19,15 @@ use Rattle.isa.specs.Effect.{Effect, bytesOn}
 use Rattle.isa.specs.Mac16 as Mac16
 use Rattle.isa.specs.Vecint as Vecint
 use Rattle.isa.specs.Call.{Call, call, isMac16, isVecint, effectOf}
-use Rattle.isa.specs.Answers.{Row, rowsAbove, ownRows, firstOf, answerBy, answerOf, ownAnswer, taken, byState}
+use Rattle.isa.specs.Answers.{Row, knownRows, rowsAbove, ownRows, firstOf, answerBy, answerOf, ownAnswer, taken, byState}
 use Rattle.isa.specs.Answers.{reservedBits, reservedMode, laterMode, notCovered, vecintRows, onlyIf}
 use Rattle.isa.specs.Step.{leaves, stepped}
 use Rattle.isa.specs.Normal.{mac16Ignored, vecintIgnored, clearedAll, normalOperand, instead, normalOf}
 use Rattle.isa.specs.Demands.{NormalSame, NormalTwice, NormalAnswers, NormalNever}
 use Rattle.isa.specs.Indexed.{ModeBitsStay}
-use Rattle.number.proofs.Tests.{true-false, two, either, pick-true, pick-false}
-use Rattle.isa.proofs.Step.{known, by, told}
+use Rattle.number.proofs.Tests.{true-false, two, pick-true, pick-false}
+use Rattle.isa.proofs.Rows.{first-all, first-or}
+use Rattle.isa.proofs.Step.{by, told}
 use Rattle.isa.proofs.NormalMac16.{mac16-same, mac16-twice}
 use Rattle.isa.proofs.NormalVecint as V′
 
@@ -164,15 +164,9 @@ normal-twice c op e =
 OwnOr : Call → Answer → Type 0
 OwnOr c a = (a ≡ ownAnswer c) ⊎ ((r : Refusal) × (byState r ≡ true) × (a ≡ Refused r))
 
-known-or : (c : Call) (r : Refusal) → byState r ≡ true → OwnOr c (known c (Refused r))
+known-or : (c : Call) (r : Refusal) → byState r ≡ true → OwnOr c (firstOf (knownRows c) (Refused r))
 unfolding OwnOr ownAnswer
-known-or c r e =
-    two (not (eqb (c .generation) 1 || eqb (c .generation) 2)) (OwnOr c (known c (Refused r)))
-    (λ g. inl (pick-true _ _ g ∙ sym (pick-true _ _ g)))
-    (λ g.
-    two (not (isMac16 c || isVecint c)) (OwnOr c (known c (Refused r)))
-    (λ i. inl (pick-false _ _ g ∙ pick-true _ _ i ∙ sym (pick-false _ _ g ∙ pick-true _ _ i)))
-    (λ i. inr (r, e, pick-false _ _ g ∙ pick-false _ _ i)))
+known-or c r e = ⊎-elim (λ same. inl same) (λ refused. inr (r, e, refused)) (first-or (knownRows c) (Refused r) _)
 
 own-or : (c : Call) (long last due : Bool) → OwnOr c (by long last due c)
 unfolding OwnOr ownAnswer
@@ -184,17 +178,15 @@ own-or c true false false = known-or c Serial refl
 pub normal-answers : (c : Call) (serial : ℕ) (s : List ℕ) → NormalAnswers c serial s
 unfolding normalOf OwnOr
 normal-answers c serial s = record {
-  when-done = λ n e. (normalOperand c, given (Done n) e (own (Done n) e (λ r t f. true-false (ap taken f))));
-  when-no-op = λ r e. given (NoOp r) e (own (NoOp r) e (λ x t f. true-false (ap taken f)));
-  when-refused = λ r e no. given (Refused r) e (own (Refused r) e (λ x t f. true-false (sym t ∙ ap byStateOf (sym f) ∙ no)));
+  when-done = λ n e. (normalOperand c, given (own (Done n) e (λ r t f. true-false (ap taken f))));
+  when-no-op = λ r e. given (own (NoOp r) e (λ x t f. true-false (ap taken f)));
+  when-refused = λ r e no.
+      given (own (Refused r) e
+      (λ x t f.
+      let same : x ≡ r = cc in
+      true-false (sym t ∙ ap byState same ∙ no)));
 }
   where
-    -- of an answer that is a refusal
-    byStateOf : Answer → Bool
-    byStateOf (Done n) = false
-    byStateOf (NoOp r) = false
-    byStateOf (Refused r) = byState r
-
     own : (a : Answer) → answerOf s c serial ≡ a → ((r : Refusal) → byState r ≡ true → a ≡ Refused r → ⊥) → ownAnswer c ≡ a
     own a e never = go (own-or c (eqb (length s) stateLength) (eqb (countOf s) lastCount) (eqb serial (countOf s)))
       where
@@ -205,8 +197,8 @@ normal-answers c serial s = record {
         go (inl x) = sym x ∙ is
         go (inr (r, t, x)) = absurd (never r t (sym is ∙ x))
 
-    given : (a : Answer) → answerOf s c serial ≡ a → ownAnswer c ≡ a → instead (ownAnswer c) (normalOperand c) ≡ instead a (normalOperand c)
-    given a e x = ap (λ (y : Answer). instead y (normalOperand c)) x
+    given : {a : Answer} → ownAnswer c ≡ a → instead (ownAnswer c) (normalOperand c) ≡ instead a (normalOperand c)
+    given x = ap (λ (y : Answer). instead y (normalOperand c)) x
 
 -- ---- no row by the call alone refuses by the state or the serial
 
@@ -215,26 +207,14 @@ NotByState (Done n) = Unit {0}
 NotByState (NoOp r) = Unit {0}
 NotByState (Refused r) = byState r ≡ false
 
-AllOwn : List Row → Type 0
-AllOwn [] = Unit {0}
-AllOwn (r ∷ rs) = NotByState (r .answer) × AllOwn rs
-
-first-own : (rs : List Row) (a : Answer) → AllOwn rs → NotByState a → NotByState (firstOf rs a)
-unfolding AllOwn
-first-own [] a h x = x
-first-own (r ∷ rs) a h x = either NotByState (r .applies) (h .0) (first-own rs a (h .1) x)
-
 pub normal-never : NormalNever
-unfolding normalOf ownAnswer AllOwn
+unfolding normalOf ownAnswer
 normal-never c r e =
-    go (ownAnswer c) e (first-own (ownRows c) (Done (bytesOn (effectOf c))) (refl, (refl, (tt, (tt, (tt, (refl, tt)))))) tt)
+    go (ownAnswer c) e (first-all NotByState (ownRows c) (Done (bytesOn (effectOf c))) (refl, (refl, (tt, (tt, (tt, (refl, tt)))))) tt)
   where
     go : (a : Answer) → instead a (normalOperand c) ≡ normal.Refused r → NotByState a → byState r ≡ false
     go (Done n) e h = cc
     go (NoOp x) e h = cc
-    go (Refused x) e h = ap byStateOf (sym e) ∙ h
-      where
-        byStateOf : Normal → Bool
-        byStateOf (normal.Operand op) = true
-        byStateOf (normal.NoOp x) = true
-        byStateOf (normal.Refused x) = byState x
+    go (Refused x) e h =
+        let same : x ≡ r = cc in
+        sym (ap byState same) ∙ h

@@ -19,7 +19,7 @@ use Rattle.isa.specs.Enable.{mac16Enables}
 use Rattle.isa.specs.Mac16 as Mac16
 use Rattle.isa.specs.Vecint as Vecint
 use Rattle.isa.specs.Call.{Call, effectOf}
-use Rattle.isa.specs.Answers.{answerOf, ownAnswer, isDone}
+use Rattle.isa.specs.Answers.{knownRows, firstOf, answerOf, ownAnswer, isDone}
 use Rattle.isa.specs.Step.{stepped, answerDue, stepDue, answers}
 use Rattle.isa.specs.Swap.{swapAt}
 use Rattle.isa.specs.Serials as Serials
@@ -27,7 +27,7 @@ use Rattle.number.proofs.Tests.{true-false}
 use Rattle.isa.proofs.Registers.{length-state, count-state}
 use Rattle.isa.proofs.Lawful.{fills}
 use Rattle.isa.proofs.Count.{bytes-lanes}
-use Rattle.isa.proofs.Step.{known, told, own-due, refused-leaves, stepped-length, taken-raised}
+use Rattle.isa.proofs.Step.{told, own-due, refused-leaves, stepped-length, taken-raised}
 use Rattle.isa.proofs.Guards.{adding}
 
 -- 32 lanes of 2 bytes
@@ -76,7 +76,7 @@ retry-refused r size =
     }
 
 -- at the last count a call of known numbers is refused 9
-at-last : (c : Call) (s : List ℕ) → length s ≡ 5128 → countOf s ≡ lastCount → answerDue s c ≡ known c (Refused refusal.LastCount)
+at-last : (c : Call) (s : List ℕ) → length s ≡ 5128 → countOf s ≡ lastCount → answerDue s c ≡ firstOf (knownRows c) (Refused refusal.LastCount)
 at-last c s size last = told (length s) (countOf s) (countOf s) c (eq-eqb (length s) 5128 size) (eq-eqb (countOf s) lastCount last) refl
 
 first-differs : (a b : Answer) (more others : List Answer) → isDone a ≡ true → isDone b ≡ false → a ∷ more ≡ b ∷ others → ⊥

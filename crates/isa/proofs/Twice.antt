@@ -12,11 +12,11 @@ use Rattle.isa.specs.declared.Answer.the-variants.{Refused}
 use Rattle.isa.specs.declared.Refusal.the-variants.{Serial, LastCount}
 use Rattle.isa.specs.State.{stateLength, countOf, lastCount}
 use Rattle.isa.specs.Call.{Call}
-use Rattle.isa.specs.Answers.{answerOf, taken}
+use Rattle.isa.specs.Answers.{knownRows, firstOf, answerOf, taken}
 use Rattle.isa.specs.Step.{stepped, Sent, runSent}
 use Rattle.isa.specs.Demands.{UsedUp, NoStepTwice}
 use Rattle.number.proofs.Tests.{two}
-use Rattle.isa.proofs.Step.{known, told, not-known, met, stepped-not, stepped-length, taken-raised, count-from}
+use Rattle.isa.proofs.Step.{told, not-known, met, stepped-not, stepped-length, taken-raised, count-from}
 
 -- steps keep the length, and no count falls
 sent-length : (xs : List Sent) (s : List ℕ) → length (runSent xs s) ≡ length s
@@ -36,8 +36,8 @@ module _ (c : Call) (serial : ℕ) (s : List ℕ) (size : length s ≡ 5128) (pa
   used-leaves =
       stepped-not c serial s
       (two (eqb (countOf s) lastCount) (taken (answerOf s c serial) ≡ false)
-      (λ t. ap taken (used-up ∙ (λ i. known c (cond (t i) (Refused LastCount) (Refused Serial)))) ∙ not-known c LastCount)
-      (λ t. ap taken (used-up ∙ (λ i. known c (cond (t i) (Refused LastCount) (Refused Serial)))) ∙ not-known c Serial))
+      (λ t. ap taken (used-up ∙ (λ i. firstOf (knownRows c) (cond (t i) (Refused LastCount) (Refused Serial)))) ∙ not-known c LastCount)
+      (λ t. ap taken (used-up ∙ (λ i. firstOf (knownRows c) (cond (t i) (Refused LastCount) (Refused Serial)))) ∙ not-known c Serial))
 
 pub no-step-twice : NoStepTwice
 no-step-twice c serial s t since again =

@@ -13,8 +13,9 @@ use Rattle.isa.specs.declared.Answer.the-variants.{Done}
 use Rattle.isa.specs.Effect.{bytesOn}
 use Rattle.isa.specs.Call.{Call, effectOf}
 use Rattle.isa.specs.State.{countOf}
-use Rattle.isa.specs.Answers.{Row, rowsAbove, firstOf, answerBy, hostNumber}
+use Rattle.isa.specs.Answers.{rowsAbove, answerBy, hostNumber}
 use Rattle.isa.specs.Step.{answerDue, stepDue}
+use Rattle.isa.proofs.Rows.{first-all}
 use Rattle.isa.proofs.Count.{bytes-most}
 use Rattle.file.specs.declared.FileRefusal.the-variants.{Short, Contents, Padding}
 use Rattle.file.specs.declared.Opened.{Opened}
@@ -28,20 +29,10 @@ use Rattle.trace.specs.Trace.{stepLines, rowOf, rowChanged, rowLine, row
 
 -- ---- an answer's number
 
--- the number of each row's answer
-AllSmall : List Row → Type 0
-AllSmall [] = Unit {0}
-AllSmall (r ∷ rs) = (hostNumber (r .answer) < 2 ^ 64) × AllSmall rs
-
-first-small : (rs : List Row) (d : Answer) → AllSmall rs → hostNumber d < 2 ^ 64 → hostNumber (firstOf rs d) < 2 ^ 64
-unfolding AllSmall
-first-small [] d t l = l
-first-small (r ∷ rs) d (h, t) l = either (λ (a : Answer). hostNumber a < 2 ^ 64) (r .applies) h (first-small rs d t l)
-
 answer-number : (s : List ℕ) (c : Call) → hostNumber (answerDue s c) < 2 ^ 64
-unfolding answerBy AllSmall
+unfolding answerBy
 answer-number s c =
-    first-small (rowsAbove (length s) (countOf s) (countOf s) c) (Done (bytesOn (effectOf c)))
+    first-all (λ (a : Answer). hostNumber a < 2 ^ 64) (rowsAbove (length s) (countOf s) (countOf s) c) (Done (bytesOn (effectOf c)))
     (omega arith, (omega arith, (omega arith, (omega arith, (omega arith, (omega arith, (omega arith, (omega arith, (omega arith, tt)))))))))
     (omega (arith, bytes-most (effectOf c)))
 
