@@ -2,54 +2,124 @@ use mathlib.Core.Path.{sym, ap, _∙_}
 use native.Mathlib.Omega.{arith}
 use borrow.Author.Tests.{not-true, not-false}
 use Rattle.file.specs.declared.Opened.the-variants.{Steps}
-use Rattle.file.specs.File.{paddingsClear}
 use Rattle.file.proofs.Contents.{contents-most}
-use Rattle.file.proofs.Accepted.{opened-short, opened-contents, opened-padding, opened-steps}
+use Rattle.file.proofs.Accepted.{opened-short, opened-contents, opened-padding, opened-steps, steps-end, paddings-part}
 use borrow.Author.Needs.{needs}
 use Rattle.file.proofs.open.Statement.{statement}
 use Rattle.file.proofs.open.Tie as tie
 
--- src/lib.rt:125:9
-returns : tie.Need-returns
-returns c = opened-short (c .before .before .args .file .now) (c .if1 .taken)
+contents-length-requires : tie.Need-contents-length-requires
+contents-length-requires c κs = search needs
 
--- src/lib.rt:127:9
+returns : tie.Need-returns
+returns c =
+    let size = c .before in
+    let file = size .before .before .args .file .now in
+    opened-short file (omega (arith, size .contents-length .ensures .0, c .if1 .taken))
+
 contents-right-requires : tie.Need-contents-right-requires
 contents-right-requires c κs = search needs
 
--- src/lib.rt:128:9
 returns-2 : tie.Need-returns-2
-returns-2 c = opened-contents (c .before .before .before .before .args .file .now) (c .before .before .if1 .left) (sym (c .before .contents-right .ensures) ∙ not-true (c .before .contents-right .result) (c .if2 .taken))
+returns-2 c =
+    let contents = c .before in
+    let long = contents .before in
+    let size = long .before in
+    let file = size .before .before .args .file .now in
+    opened-contents file (omega (arith, size .contents-length .ensures .0, long .if1 .left))
+    (sym (contents .contents-right .ensures) ∙ not-true (contents .contents-right .result) (c .if2 .taken))
 
--- src/lib.rt:130:13
 step-count-requires : tie.Need-step-count-requires
 step-count-requires c κs = search needs
 
--- src/lib.rt:130:13
 cast-n : tie.Need-cast-n
 cast-n c = search needs
 
--- src/lib.rt:131:9
+steps-base-requires : tie.Need-steps-base-requires
+steps-base-requires c κs = search needs
+
+mul-end : tie.Need-mul-end
+mul-end c = search needs
+
+add-end : tie.Need-add-end
+add-end c = search needs
+
+sub-paddings-clear : tie.Need-sub-paddings-clear
+sub-paddings-clear c = search needs
+
+part-paddings-clear-start : tie.Need-part-paddings-clear-start
+part-paddings-clear-start c = search needs
+
+part-paddings-clear-end : tie.Need-part-paddings-clear-end
+part-paddings-clear-end c =
+    let count = c .before in
+    let right = count .before in
+    let contents = right .before in
+    let file = contents .before .before .before .before .args .file .now in
+    steps-end file (sym (contents .contents-right .ensures) ∙ not-false (contents .contents-right .result) (right .if2 .left))
+    (c .steps-base .result) (count .step-count .result) (c .steps-base .ensures .0) (count .step-count .ensures .0)
+
 paddings-clear-requires : tie.Need-paddings-clear-requires
-paddings-clear-requires c κs = omega (arith, contents-most (c .before .before .before .before .before .args .file .now) (sym (c .before .before .contents-right .ensures) ∙ not-false (c .before .before .contents-right .result) (c .before .if2 .left)), c .step-count .ensures .0)
+paddings-clear-requires c κs =
+    let count = c .before .before in
+    let right = count .before in
+    let contents = right .before in
+    let file = contents .before .before .before .before .args .file .now in
+    omega (
+      arith,
+      contents-most file (sym (contents .contents-right .ensures) ∙ not-false (contents .contents-right .result) (right .if2 .left)),
+      count .step-count .ensures .0,
+    )
 
--- src/lib.rt:132:9
 returns-3 : tie.Need-returns-3
-returns-3 c = opened-padding (c .before .before .before .before .before .before .before .args .file .now) (c .before .before .before .before .before .if1 .left) (sym (c .before .before .before .before .contents-right .ensures) ∙ not-false (c .before .before .before .before .contents-right .result) (c .before .before .before .if2 .left)) (ap (paddingsClear (c .before .before .before .before .before .before .before .args .file .now)) (sym (c .before .before .step-count .ensures .0)) ∙ sym (c .before .paddings-clear .ensures) ∙ not-true (c .before .paddings-clear .result) (c .if3 .taken))
+returns-3 c =
+    let clear = c .before in
+    let base = clear .before .before in
+    let count = base .before in
+    let right = count .before in
+    let contents = right .before in
+    let long = contents .before in
+    let size = long .before in
+    let file = size .before .before .args .file .now in
+    let whole = sym (contents .contents-right .ensures) ∙ not-false (contents .contents-right .result) (right .if2 .left) in
+    opened-padding file (omega (arith, size .contents-length .ensures .0, long .if1 .left)) whole
+    (paddings-part file whole (base .steps-base .result) (count .step-count .result) (base .steps-base .ensures .0) (count .step-count .ensures .0)
+    (clear .paddings-clear .result) (clear .paddings-clear .ensures)
+    ∙ not-true (clear .paddings-clear .result) (c .if3 .taken))
 
--- src/lib.rt:121:1
 returns-4 : tie.Need-returns-4
-returns-4 c = ap Steps (c .before .before .step-count .ensures .0) ∙ opened-steps (c .before .before .before .before .before .before .before .args .file .now) (c .before .before .before .before .before .if1 .left) (sym (c .before .before .before .before .contents-right .ensures) ∙ not-false (c .before .before .before .before .contents-right .result) (c .before .before .before .if2 .left)) (ap (paddingsClear (c .before .before .before .before .before .before .before .args .file .now)) (sym (c .before .before .step-count .ensures .0)) ∙ sym (c .before .paddings-clear .ensures) ∙ not-false (c .before .paddings-clear .result) (c .if3 .left))
+returns-4 c =
+    let clear = c .before in
+    let base = clear .before .before in
+    let count = base .before in
+    let right = count .before in
+    let contents = right .before in
+    let long = contents .before in
+    let size = long .before in
+    let file = size .before .before .args .file .now in
+    let whole = sym (contents .contents-right .ensures) ∙ not-false (contents .contents-right .result) (right .if2 .left) in
+    ap Steps (count .step-count .ensures .0)
+    ∙ opened-steps file (omega (arith, size .contents-length .ensures .0, long .if1 .left)) whole
+    (paddings-part file whole (base .steps-base .result) (count .step-count .result) (base .steps-base .ensures .0) (count .step-count .ensures .0)
+    (clear .paddings-clear .result) (clear .paddings-clear .ensures)
+    ∙ not-false (clear .paddings-clear .result) (c .if3 .left))
 
 pub open-spec : {M : Type 1} → statement M
 open-spec =
     tie.close
     (tie.spec
+    contents-length-requires
     returns
     contents-right-requires
     returns-2
     step-count-requires
     cast-n
+    steps-base-requires
+    mul-end
+    add-end
+    sub-paddings-clear
+    part-paddings-clear-start
+    part-paddings-clear-end
     paddings-clear-requires
     returns-3
     returns-4)
