@@ -3,7 +3,7 @@
 use mathlib.Core.Path.{_≡_, sym, ap, _∙_}
 use mathlib.Core.Bool.{true, false, _&&_}
 use mathlib.Core.List.{List}
-use Prim.Native.Nat.{ℕ, _+_, _≤_, _<_}
+use Prim.Native.Nat.{ℕ, _+_, _/_, _≤_, _<_}
 use native.Mathlib.Nat.{zero-add}
 use native.Mathlib.Omega.{arith}
 use borrow.Author.Tests.{lt-ltb, le-ltb, eq-eqb, ne-eqb, le-leb, lt-leb}
@@ -19,7 +19,7 @@ use Rattle.isa.specs.Call.{Call, call}
 use Rattle.isa.proofs.Registers.{length-state, byte-state, count-state, count-stored}
 use Rattle.file.specs.declared.Record.{Record}
 use Rattle.file.specs.declared.Read.the-variants as read
-use Rattle.file.specs.File.{stepsBase, mostSteps, callAt, calls, registersIn, startOf, cursor, recordOf, readAs, loadedFrom}
+use Rattle.file.specs.File.{stepsBase, mostSteps, callAt, calls, registersIn, startOf, cursor, recordOf, readAs, recordsIn, loadedFrom}
 
 -- ---- a call as code holds it
 
@@ -68,6 +68,14 @@ module _ (file : List ℕ) where
       byte-state (registersIn file) 0 length-in p h
       ∙ getD-table (λ k. byteAt file (28 + k)) 0 0 registerBytes p h
       ∙ ap (λ (k : ℕ). byteAt file (28 + k)) (zero-add p)
+
+-- ---- whole records, by the branches of the code
+
+pub count-few : (steps : List ℕ) → length steps / 16 < 2048 → (length steps / 16 ≡ recordsIn steps) × (length steps / 16 ≤ 2048)
+count-few steps h = (sym (pick-true _ _ (lt-ltb (length steps / 16) mostSteps h)), omega arith)
+
+pub count-most : (steps : List ℕ) → 2048 ≤ length steps / 16 → (2048 ≡ recordsIn steps) × (2048 ≤ 2048)
+count-most steps h = (sym (pick-false _ _ (le-ltb (length steps / 16) mostSteps h)), omega arith)
 
 -- ---- loading, by the branches of the code
 

@@ -102,6 +102,10 @@ callAt file i = call (byteAt file (stepAt i)) (byteAt file (stepAt i + 1)) (numb
 abbrev pub calls : List ℕ → ℕ → List Call
 calls file n = table (callAt file) 0 n
 
+-- whole records, 2,048 at most
+abbrev pub recordsIn : List ℕ → ℕ
+recordsIn steps = cond (ltb (length steps / stepBytes) mostSteps) (length steps / stepBytes) mostSteps
+
 -- "trace sections keep 5,120 register bytes"
 abbrev pub registersIn : List ℕ → List ℕ
 registersIn file = table (λ k. byteAt file (contentsLength + k)) 0 registerBytes

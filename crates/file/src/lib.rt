@@ -2,7 +2,7 @@
 ghost use mathlib.Core.Path.{_≡_};
 ghost use Prim.Native.Nat.{_≤_, _<_};
 ghost use Rattle.file.specs.File.{fileRefusalNumber, entryIs, stepCount, contentsRight, paddingClear, paddingsClear, openedAs};
-ghost use Rattle.file.specs.File.{callAt, recordOf, readAs, loadedFrom};
+ghost use Rattle.file.specs.File.{callAt, recordOf, readAs, recordsIn, loadedFrom};
 
 // Why a file is refused.
 pub enum FileRefusal {
@@ -168,6 +168,17 @@ pub fn read_record(file: &[u8], cursor: Cursor) -> Read
             end,
         },
     )
+}
+
+// The whole records of the bytes, 2,048 at most.
+pub fn record_count(steps: &[u8]) -> usize
+    ensures { λ r. ⌜ (r ≡ recordsIn (now (steps .entry))) × (r ≤ 2048) ⌝ }
+{
+    let n = steps.len() / 16;
+    if n < 2048 {
+        return n;
+    }
+    2048
 }
 
 // ---- the starting state
