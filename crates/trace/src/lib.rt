@@ -56,7 +56,7 @@ fn print_step(file: &[u8], state: &mut [u8], out: &mut [u8], at: usize, i: usize
 {
     let ran = run_record(file, state, file::Cursor { next: i, end: n });
     match ran {
-        Ran::Answered(answer, _) => text::step_line(out, at as u32, i as u32, answer),
+        Ran::Answered(answer, _) => text::step_line(out, at as u32, i as u64, answer),
         Ran::End => at,
     }
 }

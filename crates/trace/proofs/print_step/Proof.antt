@@ -16,10 +16,6 @@ enum-known-ran c = search needs
 cast-step-line : tie.Need-cast-step-line
 cast-step-line c = search needs
 
--- src/lib.rt:53:69
-cast-step-line-2 : tie.Need-cast-step-line-2
-cast-step-line-2 c = search needs
-
 -- src/lib.rt:53:37
 step-line-requires : tie.Need-step-line-requires
 step-line-requires c κs = search needs
@@ -55,7 +51,6 @@ print-step-spec =
     run-record-requires
     enum-known-ran
     cast-step-line
-    cast-step-line-2
     step-line-requires
     enum-told
     same-length

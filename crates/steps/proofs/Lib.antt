@@ -1,0 +1,4 @@
+pub mod Joined
+pub mod Short
+pub mod Branches
+pub mod Turns
