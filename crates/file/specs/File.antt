@@ -4,7 +4,7 @@ use mathlib.Core.Bool.{Bool, true, cond, not, _&&_}
 use mathlib.Core.List.{List, _++_}
 use Prim.Native.Nat.{ℕ, zero, suc, _+_, _*_, _/_, _^_}
 use lib.Dec.{eqb, leb, ltb}
-use lib.ListN.{length, drop}
+use lib.ListN.{length}
 use lib.Seq.{sets}
 use Rattle.number.specs.Bytes.{byteAt, number, table, bytesOf}
 use Rattle.isa.specs.State.{registerBytes, stateLength, stateOf}
@@ -107,14 +107,6 @@ callAt steps i = call (byteAt steps (stepAt i)) (byteAt steps (stepAt i + 1)) (n
 -- the first n steps
 abbrev pub calls : List ℕ → ℕ → List Call
 calls steps n = table (callAt steps) 0 n
-
--- all steps of a file
-abbrev pub callsIn : List ℕ → List Call
-callsIn file = calls (stepsIn file) (stepCount file)
-
--- "the steps not yet consumed": "Resuming reads on from there"
-abbrev pub remaining : List ℕ → List Call
-remaining file = drop (consumedIn file) (callsIn file)
 
 -- ---- the table of contents
 

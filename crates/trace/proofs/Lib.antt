@@ -1,7 +1,5 @@
-pub mod Calls
 pub mod Short
 pub mod Rows
-pub mod Reading
+pub mod Remaining
 pub mod Room
 pub mod Swapped
-pub mod Line
