@@ -23,7 +23,7 @@ use Rattle.steps.specs.Steps.{stepLines, stateBy, lineBy}
 use Rattle.steps.proofs.Joined.{run-more, lines-more}
 use Rattle.steps.proofs.Branches.{RanOne}
 
-length-run : (cs : List Call) (s : List ℕ) → length (run cs s) ≡ length s
+pub length-run : (cs : List Call) (s : List ℕ) → length (run cs s) ≡ length s
 length-run [] s = refl
 length-run (c ∷ cs) s = length-run cs (stepDue c s) ∙ stepped-length c (countOf s) s
 
