@@ -22,13 +22,14 @@ use Rattle.steps.proofs.Short.{line-short}
 -- what running a found record at a place ensures of the state, the buffer and the position
 abbrev pub RanOne : List ℕ → List ℕ → ℕ → ℕ → Step → List ℕ → List ℕ → ℕ → Type 0
 RanOne s o at place found s′ o′ at′ =
-    ((s′ ≡ stateBy s found) × (o′ ≡ sets o at (lineBy place s found)) × (at′ ≡ at + length (lineBy place s found))) × (at′ ≤ at + 55)
+    (s′ ≡ stateBy s found) × (o′ ≡ sets o at (lineBy place s found)) × (at′ ≡ at + length (lineBy place s found))
 
 module _ (s o : List ℕ) (at place : ℕ) (found : Step) where
   -- the serial that was read is the one due
   pub step-run : place < 2 ^ 64 → (r : Record) → found ≡ step.Record r → (serial : ℕ) → serial ≡ countOf s
       → (s′ : List ℕ) → s′ ≡ stepped (callOf r) serial s → (answer : Answer) → answer ≡ answerOf s (callOf r) serial
-      → (o′ : List ℕ) (at′ : ℕ) → Stored o at (stepLine place answer) o′ at′ → RanOne s o at place found s′ o′ at′
+      → (o′ : List ℕ) (at′ : ℕ) → Stored o at (stepLine place answer) o′ at′
+      → RanOne s o at place found s′ o′ at′ × (at′ ≤ at + 55)
   step-run h r e serial due s′ t answer a o′ at′ stored =
       let told : answer ≡ answerOf s (callOf r) (countOf s) = a ∙ ap (answerOf s (callOf r)) due in
       let line : stepLine place answer ≡ lineBy place s found = ap (stepLine place) told ∙ ap (lineBy place s) (sym e) in
@@ -39,6 +40,6 @@ module _ (s o : List ℕ) (at place : ℕ) (found : Step) where
         omega (arith, there .1, short),
       )
 
-  pub step-none : found ≡ step.End → RanOne s o at place found s o at
+  pub step-none : found ≡ step.End → RanOne s o at place found s o at × (at ≤ at + 55)
   step-none e =
-      subst (λ (x : Step). RanOne s o at place x s o at) (sym e) ((refl, refl, sym (add-zero at)), omega arith)
+      (subst (λ (x : Step). RanOne s o at place x s o at) (sym e) (refl, refl, sym (add-zero at)), omega arith)

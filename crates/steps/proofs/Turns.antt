@@ -2,7 +2,7 @@
 -- Assumes nothing.
 use mathlib.Core.Path.{_≡_, refl, sym, ap, subst, _∙_}
 use mathlib.Core.List.{List, [], _∷_, _++_}
-use Prim.Native.Nat.{ℕ, _+_, _*_, _≤_, _<_}
+use Prim.Native.Nat.{ℕ, _+_, _*_, _^_, _≤_, _<_}
 use native.Mathlib.Nat.{zero-add}
 use native.Mathlib.Omega.{arith}
 use lib.ListN.{length}
@@ -23,7 +23,7 @@ use Rattle.steps.specs.Steps.{stepLines, stateBy, lineBy}
 use Rattle.steps.proofs.Joined.{run-more, lines-more}
 use Rattle.steps.proofs.Branches.{RanOne}
 
-length-run : (cs : List Call) (s : List ℕ) → length (run cs s) ≡ length s
+pub length-run : (cs : List Call) (s : List ℕ) → length (run cs s) ≡ length s
 length-run [] s = refl
 length-run (c ∷ cs) s = length-run cs (stepDue c s) ∙ stepped-length c (countOf s) s
 
@@ -52,15 +52,29 @@ module _ (steps s₀ o₀ : List ℕ) (first : ℕ) where
         let all : Ran n s o at = subst (λ (k : ℕ). Ran k s o at) same ran in
         (all .0, all .1 .0, all .1 .1 ∙ zero-add (length (lines n)), all .2)
 
+    -- the position is a usize, and what running record i asks
+    pub ran-fits : (i n : ℕ) → i ≤ n → n ≤ 2048 → Ran i s o at → at < 2 ^ 64
+    ran-fits i n h most ran = omega (arith, ran .2)
+
+    pub ran-asks : (i n : ℕ) → i < n → n ≤ 2048 → Ran i s o at → (i < 2048) × (at ≤ 55 * i)
+    ran-asks i n h most ran = (omega arith, ran .2)
+
     -- one more: a reader at record i of n found one, and it was run
     pub ran-more : (i n : ℕ) → i < n → n ≤ 2048 → Ran i s o at → (found : Step) → found ≡ (foundAs steps (cursor i n)) .step
-        → {s′ o′ : List ℕ} {at′ : ℕ} → RanOne s o at (first + i) found s′ o′ at′ → Ran (i + 1) s′ o′ at′
-    ran-more i n h most ran found e {s′} {o′} {at′} one =
+        → {s′ o′ : List ℕ} {at′ : ℕ} → RanOne s o at (first + i) found s′ o′ at′ → at′ ≤ at + 55 → Ran (i + 1) s′ o′ at′
+    ran-more i n h most ran found e {s′} {o′} {at′} one short =
         let there : found ≡ step.Record (recordOf (callAt steps i)) = e ∙ ap (λ (f : Found). f .step) (found-record steps i n h (omega arith)) in
         let was : (s ≡ run (calls steps i) s₀) = ran .0 in (
-          one .0 .0 ∙ (λ t. stateBy (was t) (there t)) ∙ sym (run-more steps i s₀),
+          one .0 ∙ (λ t. stateBy (was t) (there t)) ∙ sym (run-more steps i s₀),
           subst (λ (xs : List ℕ). Stored o₀ 0 xs o′ at′)
               (ap (λ (xs : List ℕ). lines i ++ xs) (λ t. lineBy (first + i) (was t) (there t)) ∙ sym (lines-more steps i first s₀))
-              (stored-append o₀ o o′ 0 at at′ (lines i) (lineBy (first + i) s found) (ran .1) (one .0 .1, one .0 .2)),
-          omega (arith, one .1, ran .2),
+              (stored-append o₀ o o′ 0 at at′ (lines i) (lineBy (first + i) s found) (ran .1) (one .1, one .2)),
+          omega (arith, short, ran .2),
         )
+
+    -- all of the whole records
+    pub ran-records : (n m : ℕ) → n ≡ m → n ≤ 2048 → RanAll n s o at
+        → ((s ≡ run (calls steps m) s₀) × (o ≡ sets o₀ 0 (lines m)) × (at ≡ length (lines m))) × (at ≤ 112640)
+    ran-records n m same most ran =
+        let all : RanAll m s o at = subst (λ (k : ℕ). RanAll k s o at) same ran in
+        ((all .0, all .1, all .2), omega (arith, ran .3))

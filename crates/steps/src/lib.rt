@@ -32,3 +32,33 @@ fn run_step(
         reader::Step::End => at,
     }
 }
+
+// n records through one reader.
+fn run_records(steps: &[u8], state: &mut [u8], out: &mut [u8], first: u32, n: usize) -> usize
+    requires { ⌜ n ≤ 2048 ⌝ }
+    ensures { λ r. ⌜ (now (state .exit) ≡ Step.run (calls (now (steps .entry)) n) (now (state .entry)))
+        × (now (out .exit) ≡ sets (now (out .entry)) 0 (stepLines (calls (now (steps .entry)) n) first (now (state .entry))))
+        × (r ≡ length (stepLines (calls (now (steps .entry)) n) first (now (state .entry))))
+        × (r ≤ 55 * n) ⌝ }
+{
+    let mut reader = reader::Reader::new(steps, file::Cursor { next: 0, end: n });
+    let mut at = 0;
+    let mut i = 0;
+    while i < n {
+        let step = reader.next();
+        at = run_step(state, out, at, first, i, step);
+        i = i + 1;
+    }
+    at
+}
+
+// The whole records of the bytes, 2,048 at most, from the first number on.
+pub fn run(steps: &[u8], state: &mut [u8], out: &mut [u8], first: u32) -> usize
+    ensures { λ r. ⌜ (now (state .exit) ≡ Step.run (calls (now (steps .entry)) (recordsIn (now (steps .entry)))) (now (state .entry)))
+        × (now (out .exit)
+        ≡ sets (now (out .entry)) 0 (stepLines (calls (now (steps .entry)) (recordsIn (now (steps .entry)))) first (now (state .entry))))
+        × (r ≡ length (stepLines (calls (now (steps .entry)) (recordsIn (now (steps .entry)))) first (now (state .entry)))) ⌝ }
+    ensures short { λ r. ⌜ r ≤ 112640 ⌝ }
+{
+    run_records(steps, state, out, first, file::record_count(steps))
+}
