@@ -3,12 +3,12 @@
 use mathlib.Core.Path.{_≡_, refl, sym, ap, _∙_}
 use mathlib.Core.List.{List, [], _∷_, _++_, append-nil}
 use Prim.Native.Nat.{ℕ, _+_, _-_, _≤_, _<_}
-use native.Mathlib.Nat.{add-zero, zero-add, le-refl}
+use native.Mathlib.Nat.{zero-add, le-refl}
 use native.Mathlib.Omega.{arith}
 use lib.ListN.{length, set, take, drop, length-drop, drop-of-length-le}
 use lib.Seq.{sets, sets-eq, take-all, getD-take, getD-drop, length-take-le}
 use Rattle.number.specs.Bytes.{byteAt, table}
-use Rattle.number.proofs.Bytes.{length-table, getD-table, table-add}
+use Rattle.number.proofs.Bytes.{length-table, getD-table, table-more}
 use Rattle.number.proofs.Fill.{fill-all}
 use Rattle.number.proofs.Slice.{sets-append}
 use Rattle.file.specs.File.{bytesFrom}
@@ -35,11 +35,6 @@ module _ (s : List ℕ) where
   pub whole-from : (n : ℕ) → length s ≡ n → bytesFrom s 0 n ≡ s
   whole-from n e = sym (part-from 0 n (omega (arith, e))) ∙ take-all n s (omega (arith, e))
 
-  from-more : (p n : ℕ) → bytesFrom s p (n + 1) ≡ bytesFrom s p n ++ (byteAt s (p + n) ∷ [])
-  unfolding table
-  from-more p n =
-      table-add (λ k. byteAt s (p + k)) n 1 ∙ ap (λ (k : ℕ). bytesFrom s p n ++ (byteAt s (p + k) ∷ [])) (add-zero n)
-
   -- no byte is stored yet, and one byte more
   pub copy-none : (out : List ℕ) (p at : ℕ) → out ≡ sets out at (bytesFrom s p 0)
   unfolding table
@@ -51,7 +46,7 @@ module _ (s : List ℕ) where
       let front : n ≡ length (bytesFrom s p n) = sym (length-from p n) in
       f ∙ (λ i. sets (e i) (at + front i) (byte i ∷ []))
       ∙ sym (sets-append out₀ at (bytesFrom s p n) (byteAt s (p + n) ∷ []))
-      ∙ ap (sets out₀ at) (sym (from-more p n))
+      ∙ ap (sets out₀ at) (sym (table-more (λ k. byteAt s (p + k)) n))
 
 -- bytes stored over a whole list
 pub sets-whole : (vs l : List ℕ) → length vs ≡ length l → sets l 0 vs ≡ vs

@@ -2,12 +2,11 @@
 -- Assumes nothing.
 use mathlib.Core.Path.{_≡_, refl, sym, ap, _∙_}
 use mathlib.Core.List.{List, [], _∷_, _++_, append-nil, append-assoc}
-use Prim.Native.Nat.{ℕ, zero, suc, _+_}
-use native.Mathlib.Nat.{add-zero, zero-add, add-suc, suc-add}
-use native.Mathlib.Numerals.{add-one}
+use Prim.Native.Nat.{ℕ, suc, _+_}
+use native.Mathlib.Nat.{add-zero}
 use native.Mathlib.Omega.{arith}
 use lib.ListN.{length}
-use Rattle.number.specs.Bytes.{table}
+use Rattle.number.proofs.Bytes.{table-more}
 use Rattle.isa.specs.Call.{Call}
 use Rattle.isa.specs.declared.Answer.{Answer}
 use Rattle.isa.specs.Step.{answerDue, stepDue, run}
@@ -32,12 +31,6 @@ joined (c ∷ cs) ds i s =
 
 -- ---- one more record
 
-table-more : {A : Type 0} (f : ℕ → A) (i n : ℕ) → table f i (suc n) ≡ table f i n ++ (f (i + n) ∷ [])
-unfolding table
-table-more f i zero = ap (λ (k : ℕ). f k ∷ []) (sym (add-zero i))
-table-more f i (suc n) =
-    ap (λ (r : List _). f i ∷ r) (table-more f (suc i) n ∙ ap (λ (k : ℕ). table f (suc i) n ++ (f k ∷ [])) (suc-add i n ∙ sym (add-suc i n)))
-
 module _ (steps : List ℕ) (i : ℕ) where
   abbrev front : List Call
   front = calls steps i
@@ -46,7 +39,7 @@ module _ (steps : List ℕ) (i : ℕ) where
   last = callAt steps i ∷ []
 
   calls-more : calls steps (i + 1) ≡ front ++ last
-  calls-more = ap (calls steps) (add-one i) ∙ table-more (callAt steps) 0 i ∙ ap (λ (k : ℕ). front ++ (callAt steps k ∷ [])) (zero-add i)
+  calls-more = table-more (callAt steps) i
 
   pub run-more : (s : List ℕ) → run (calls steps (i + 1)) s ≡ stepDue (callAt steps i) (run front s)
   run-more s = ap (λ (cs : List Call). run cs s) calls-more ∙ joined front last 0 s .0

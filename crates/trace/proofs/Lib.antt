@@ -1,5 +1,7 @@
+pub mod Remaining
 pub mod Short
 pub mod Rows
-pub mod Remaining
 pub mod Room
 pub mod Swapped
+pub mod Resumed
+pub mod Across

@@ -1,11 +1,10 @@
 -- The steps of an accepted file that are not yet consumed, and the parts of the file that are lent to run and to print them.
 -- Assumes nothing.
-use mathlib.Core.Path.{_≡_, refl, sym, ap, _∙_}
+use mathlib.Core.Path.{_≡_, ap, _∙_}
 use mathlib.Core.List.{List}
 use Prim.Native.Nat.{ℕ, _+_, _-_, _*_, _≤_}
 use native.Mathlib.Omega.{arith}
 use lib.ListN.{length, take, drop, length-drop}
-use Rattle.isa.specs.Call.{Call}
 use Rattle.file.specs.declared.Opened.the-variants.{Steps}
 use Rattle.file.specs.File.{bytesFrom, contentsLength, stepsBase, stepCount, registersIn, stepsIn, consumedIn, recordsIn, calls, openedAs}
 use Rattle.file.proofs.Parts.{length-from, part-between}

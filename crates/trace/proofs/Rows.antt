@@ -11,9 +11,9 @@ use native.Mathlib.Omega.{arith}
 use borrow.Author.Tests.{eq-eqb, ne-eqb}
 use lib.Dec.{eqb}
 use lib.ListN.{length}
-use Rattle.number.specs.Bytes.{byteAt, table}
+use Rattle.number.specs.Bytes.{byteAt}
 use Rattle.number.proofs.Tests.{pick-true, pick-false, is-false, true-false, lt-or-le}
-use Rattle.number.proofs.Bytes.{length-table, table-same}
+use Rattle.number.proofs.Bytes.{length-table}
 use Rattle.file.specs.File.{all}
 use Rattle.file.proofs.Paddings.{all-at, all-true}
 use Rattle.text.specs.Lines.{zLine}
