@@ -10,7 +10,7 @@ use Rattle.isa.specs.declared.Answer.{Answer}
 use Rattle.isa.specs.declared.Answer.the-variants.{Done, NoOp}
 use Rattle.isa.specs.declared.Reason.the-variants.{ReservedBits}
 use Rattle.isa.specs.Operand.{bits}
-use Rattle.isa.specs.State.{registerBytes, countOf, lastCount, stateOf}
+use Rattle.isa.specs.State.{countOf, lastCount, stateOf}
 use Rattle.isa.specs.Call.{Call}
 use Rattle.isa.specs.Answers.{answerOf, ownAnswer, isDone}
 use Rattle.isa.specs.Step.{answerDue, stepDue}

@@ -4,4 +4,6 @@ pub mod Rows
 pub mod Room
 pub mod Swapped
 pub mod Resumed
+pub mod Stands
+pub mod Cuts
 pub mod Across

@@ -3,7 +3,6 @@
 use mathlib.Core.Path.{_≡_, sym, ap, _∙_}
 use mathlib.Core.List.{List, _++_, append-assoc}
 use Prim.Native.Nat.{ℕ, _+_, _≤_}
-use native.Mathlib.Nat.{zero-add}
 use native.Mathlib.Omega.{arith}
 use lib.ListN.{length, take, drop, take-append-drop}
 use lib.Seq.{length-take-le}
@@ -18,8 +17,8 @@ use Rattle.file.proofs.Accepted.{accepted-count, accepted-consumed}
 use Rattle.text.specs.Lines.{stepsLine}
 use Rattle.steps.specs.Steps.{stepLines}
 use Rattle.steps.proofs.Joined.{joined}
-use Rattle.trace.specs.Trace.{zLines, callsIn, remaining, ended, acceptedText, textBy, textOf}
-use Rattle.trace.specs.Resume.{linesTo, stoppedAt, Resumes, WholeRun}
+use Rattle.trace.specs.Trace.{zLines, callsIn, remaining, ended, textBy, textOf}
+use Rattle.trace.specs.Resume.{linesTo, Resumes, WholeRun}
 
 -- ---- a list of calls in two parts
 

@@ -14,7 +14,8 @@ use Rattle.isa.specs.Step.{run, answers}
 use Rattle.isa.specs.Swap.{swapAt, MaySwap, MaySwapAt}
 use Rattle.isa.specs.Serials.{sum}
 use Rattle.file.specs.declared.Opened.the-variants.{Steps}
-use Rattle.file.specs.File.{hasCheckpoint, checkpointLength, stepBytes, stepCount, registersIn, startOf, stepsIn, consumedIn, resumedFrom, openedAs, checkpointOf}
+use Rattle.file.specs.File.{hasCheckpoint, checkpointLength, stepBytes, stepCount, registersIn, startOf, stepsIn, consumedIn, resumedFrom}
+use Rattle.file.specs.File.{openedAs, checkpointOf}
 use Rattle.steps.specs.Steps.{stepLines}
 use Rattle.trace.specs.Trace.{callsIn, remaining, ended, textOf}
 
