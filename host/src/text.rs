@@ -316,14 +316,10 @@ mod tests {
     fn there_and_back_is_exact() {
         let mut random = Random::new(7);
         for _ in 0..300 {
-            let mut trace = Trace::new(random.state());
-            for _ in 0..random.below(40) {
-                let call = random.call();
-                let record = Record { instruction: call.instruction as u8, generation: call.generation as u8, operand: call.operand };
-                trace.push(record).unwrap();
-            }
+            let records = random.below(40);
+            let mut trace = random.trace(records as usize);
             if random.once_in(2) {
-                let (consumed, mut state) = (random.below(trace.records().len() as u64 + 1) as usize, random.state());
+                let (consumed, mut state) = (random.below(records + 1) as usize, random.state());
                 state.set_count(random.bits());
                 trace.set_checkpoint(Checkpoint { consumed, state }).unwrap();
             }

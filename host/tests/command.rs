@@ -1,5 +1,5 @@
 //! The `amx` program from outside: its texts, its files, its errors and their statuses.
-use amx::{Call, Checkpoint, Record, State, Trace, random::Random, reference, text};
+use amx::{Checkpoint, Record, State, Trace, random::Random, reference, text};
 use std::{
     fs,
     path::{Path, PathBuf},
@@ -78,21 +78,12 @@ fn a_text_is_assembled_run_and_taken_apart() {
     assert_eq!(room.names(), ["sample.amx", "sample.txt"]);
 }
 
-fn random_trace(random: &mut Random, records: usize) -> Trace {
-    let mut trace = Trace::new(random.state());
-    for _ in 0..records {
-        let Call { instruction, generation, operand } = random.call();
-        trace.push(Record { instruction: instruction as u8, generation: generation as u8, operand }).unwrap();
-    }
-    trace
-}
-
 #[test]
 fn any_trace_is_taken_apart_and_put_together_again() {
     let room = Room::new("any");
     let mut random = Random::new(5);
     for (records, checkpoint) in [0, 1, 100, 2_048].into_iter().flat_map(|records| [false, true].map(|checkpoint| (records, checkpoint))) {
-        let mut trace = random_trace(&mut random, records);
+        let mut trace = random.trace(records);
         if checkpoint {
             let mut state = random.state();
             state.set_count(random.bits());
@@ -140,7 +131,7 @@ fn any_trace_is_cut_at_any_place() {
     let room = Room::new("anywhere");
     let mut random = Random::new(17);
     for records in [0, 5, 40, 2_048] {
-        let trace = random_trace(&mut random, records);
+        let trace = random.trace(records);
         let (file, rest) = (room.write("whole", trace.to_bytes()), room.0.join("rest"));
         let whole = said(&["run", name(&file)]);
         for after in [0, 1, records / 2, records.saturating_sub(1), records].into_iter().filter(|&after| after <= records) {

@@ -1,5 +1,5 @@
 //! Traces that are stopped and go on, on the proved unit and on the reference: the two parts are the whole, wherever the cut is.
-use amx::{Call, Checkpoint, NoCheckpoint, Record, Register, State, Trace, Width, random::Random, reference};
+use amx::{Checkpoint, NoCheckpoint, Record, Register, State, Trace, Width, random::Random, reference};
 use std::{fs, path::PathBuf};
 
 const LAST: u64 = u64::MAX;
@@ -28,15 +28,6 @@ fn trace(records: impl IntoIterator<Item = Record>) -> Trace {
 /// A trace of every answer, twice.
 fn every_answer() -> Trace {
     trace(RECORDS.map(|(record, _)| record).into_iter().chain(RECORDS.map(|(record, _)| record)))
-}
-
-fn random_trace(random: &mut Random, records: usize) -> Trace {
-    let mut trace = Trace::new(random.state());
-    for _ in 0..records {
-        let Call { instruction, generation, operand } = random.call();
-        trace.push(Record { instruction: instruction as u8, generation: generation as u8, operand }).unwrap();
-    }
-    trace
 }
 
 /// The stored files and the texts that the programs must print for them, by another source (tools/traces.py).
@@ -88,7 +79,7 @@ fn both_parts_are_the_whole_wherever_a_trace_is_cut() {
     cut_everywhere(&every_answer(), 1);
     let mut random = Random::new(6);
     for records in [1, 2, 7, 40, 300] {
-        cut_everywhere(&random_trace(&mut random, records), 1);
+        cut_everywhere(&random.trace(records), 1);
     }
 }
 
@@ -226,8 +217,8 @@ fn a_file_is_refused_by_the_first_that_applies() {
         assert_eq!(refusal(&other), Some(6));
     }
     // all three entries, the length, and what is consumed
-    for at in 0..40 {
-        assert_eq!(refusal(&changed(&[(at, sound[at] ^ 0x40)])), Some(6), "byte {at}");
+    for (at, byte) in sound.iter().enumerate().take(40) {
+        assert_eq!(refusal(&changed(&[(at, byte ^ 0x40)])), Some(6), "byte {at}");
     }
     assert_eq!((refusal(&sound[..10_339]), refusal(&[&sound[..], &[0]].concat())), (Some(6), Some(6)));
     for (consumed, refused) in [(0, None), (3, None), (4, Some(6)), (255, Some(6))] {

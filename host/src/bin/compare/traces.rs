@@ -136,14 +136,14 @@ impl Damage {
         // tables that are as long as two entries and not as three, by other counts of sections too
         let counts = (27..42).flat_map(|length| [1, 2, 4, 7].map(|turned| Damage::both(Damage::Cut(length), Damage::Table(0, turned))));
         // of records that are consumed and of others, the last one too
-        let padding = || [0, 1, 2, 6].into_iter().flat_map(|record| (0..6).map(move |at| Damage::Padding(record, at, 1 << at)));
+        let padding = [0, 1, 2, 6].into_iter().flat_map(|record| (0..6).map(move |at| Damage::Padding(record, at, 1 << at)));
         let consumed = [1, 2, 253, 256, 1 << 16, 1 << 31, u32::MAX - 3];
         let lengths = CUTS.map(Damage::Cut).into_iter().chain(SHORTER.map(Damage::Shorter)).chain(LONGER.map(Damage::Longer));
         let mut every: Vec<Damage> = [Damage::None, Damage::TooMany].into_iter().chain(lengths).chain(table).chain(counts).collect();
-        every.extend(padding().chain(consumed.map(Damage::Consumed)));
+        every.extend(padding.chain(consumed.map(Damage::Consumed)));
         // refused for its padding only where nothing comes before
         for before in [Damage::Consumed(1), Damage::Shorter(1), Damage::Longer(1), Damage::Table(4, 1), Damage::Cut(20)] {
-            every.extend(padding().map(|padding| Damage::both(padding, before.clone())));
+            every.extend([0, 6].map(|record| Damage::both(Damage::Padding(record, 5, 1), before.clone())));
         }
         every
     }
@@ -193,9 +193,7 @@ pub fn trace_of(case: &Case) -> Trace {
     start.registers_mut().copy_from_slice(&case.state[..REGISTER_BYTES]);
     let mut trace = Trace::new(start);
     for call in case.sent.iter().map(|sent| sent.call) {
-        // a record holds bytes: the low ones of odd numbers are as odd
-        let record = Record { instruction: call.instruction as u8, generation: call.generation as u8, operand: call.operand };
-        trace.push(record).expect("no more records are drawn");
+        trace.push(Record::try_from(call).expect("calls of a trace are records")).expect("no more records are drawn");
     }
     trace
 }
@@ -221,7 +219,7 @@ pub fn draw_case(random: &mut Random) -> Case {
         _ => random.below(24),
     };
     let state = random.state().bytes().to_vec();
-    Case::due(state, (0..records).map(|_| random.call()))
+    Case::due(state, (0..records).map(|_| random.record().into()))
 }
 
 /// A call of each answer that a step of a trace can have at first: done, refused 4, no-op 1, 2 and 3, refused 2 and 3.
@@ -273,18 +271,23 @@ fn reference_count(file: &[u8]) -> String {
     format!("{text}count {}\n", before.wrapping_add(taken))
 }
 
-/// Compares a program's text of a file with what the reference says; an error is the report of the smallest case found.
-fn same_text(what: &str, case: Case, form: &Form, text: Text, expected: Text) -> Result<(), String> {
-    let differs = |case: &Case| {
+/// Compares a program's text of a file with what the reference says, and gives it; an error is the report of the smallest case found.
+fn same_text(what: &str, case: Case, form: &Form, text: Text, expected: Text) -> Result<String, String> {
+    let both = |case: &Case| {
         let file = file_of(case, form);
-        text(&file) != expected(&file)
+        (text(&file), expected(&file))
     };
-    if !differs(&case) {
-        return Ok(());
+    let (given, same) = both(&case);
+    if given == same {
+        return Ok(same);
     }
+    let differs = |case: &Case| {
+        let (given, same) = both(case);
+        given != same
+    };
     let smallest = case.shrink(&differs);
-    let file = file_of(&smallest, form);
-    let found = first_difference([what, "reference"], [&text(&file), &expected(&file)]);
+    let (given, same) = both(&smallest);
+    let found = first_difference([what, "reference"], [&given, &same]);
     Err(format!("{what} and the reference differ on a trace file ({form:?}); the smallest found:\n{}\n{found}", smallest.describe()))
 }
 
@@ -335,8 +338,8 @@ fn tally_text(tally: &mut Tally, form: &Form, text: &str) {
 fn compare(random: &mut Random, files: u64, what: &str, text: Text, expected: Text) -> Result<(u64, Tally), String> {
     let (mut count, mut tally) = (0, Tally::default());
     for (case, form) in draw_files(random, files) {
-        tally_text(&mut tally, &form, &reference::trace(&file_of(&case, &form)));
-        same_text(what, case, &form, text, expected)?;
+        let text = same_text(what, case, &form, text, expected)?;
+        tally_text(&mut tally, &form, &text);
         count += 1;
     }
     tally.needs(&NEEDED, "trace files")?;
