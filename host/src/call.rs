@@ -110,10 +110,10 @@ pub fn step_bytes(state: &mut [u8], instruction: u64, generation: u64, operand: 
     answered(unit::step(state, instruction, generation, operand, serial))
 }
 
-/// Writes the checkpoint of a trace that is stopped after some steps, its third section, at the start of `out`: the steps consumed as a u32,
-/// then the state. How many bytes were written: [`CHECKPOINT_LENGTH`](crate::CHECKPOINT_LENGTH), or 0 where the state has not
-/// [`STATE_LENGTH`](crate::STATE_LENGTH) bytes, `out` has not so much room, or `consumed` is no u32. [`Trace`](crate::Trace) does this for
-/// whole files.
+/// Writes the checkpoint of a trace that is stopped after some steps, its third section, at the start of `out`: the steps consumed as a
+/// u32, then the state. How many bytes were written: [`CHECKPOINT_LENGTH`](crate::CHECKPOINT_LENGTH), or 0 where the state has not
+/// [`STATE_LENGTH`](crate::STATE_LENGTH) bytes, `out` has not so much room, or `consumed` is no u32. [`Trace`](crate::Trace) does this
+/// for whole files.
 ///
 /// ```
 /// use amx::{CHECKPOINT_LENGTH, State, checkpoint_bytes};
@@ -181,8 +181,8 @@ mod unit {
     }
 
     pub fn checkpoint(state: &[u8], consumed: u64, out: &mut [u8]) -> u64 {
-        // SAFETY: each pointer and its length are of one slice, `out` lent to this call alone; amx_checkpoint keeps none, writes to no other
-        // bytes and takes every number
+        // SAFETY: each pointer and its length are of one slice, `out` lent to this call alone; amx_checkpoint keeps neither, writes to
+        // `out` alone and takes every number
         unsafe { amx_checkpoint(state.as_ptr(), state.len() as u64, consumed, out.as_mut_ptr(), out.len() as u64) }
     }
 }

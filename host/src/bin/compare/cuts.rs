@@ -80,7 +80,8 @@ fn fault(case: &Case, place: Place, cut: Cut, texts: &[(&str, Text)], tally: &mu
     if rest != expected {
         let at = rest.iter().zip(&expected).take_while(|(a, b)| a == b).count();
         return Some(format!(
-            "the file of a trace of {steps} steps that is cut after {consumed} has {} bytes, by the reference {}; the first that differs is {at}; ",
+            "the file of a trace of {steps} steps that is cut after {consumed} has {} bytes, by the reference {}; \
+             the first that differs is {at}; ",
             rest.len(),
             expected.len()
         ));

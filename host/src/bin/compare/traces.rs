@@ -229,8 +229,8 @@ pub fn every_answer(random: &mut Random) -> Case {
     Case::due(random.state().bytes().to_vec(), calls.into_iter().chain([Call::new(14, 3, 0), Call::new(15, 1, 0)]))
 }
 
-/// Every damage to a file of such calls, of two sections and of three; checkpoints at the ends, of other states and of the last counts; then so
-/// many random files.
+/// Every damage to a file of such calls, of two sections and of three; checkpoints at the ends, of other states and of the last counts;
+/// then so many random files.
 fn draw_files(random: &mut Random, files: u64) -> impl Iterator<Item = (Case, Form)> {
     let case = every_answer(random);
     let damaged = |checkpoint| Damage::every().into_iter().map(move |damage| Form { checkpoint, damage });
