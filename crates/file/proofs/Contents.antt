@@ -107,17 +107,17 @@ module _ (file : List ℕ) where
   abbrev behind : Bool
   behind = cond (hasCheckpoint file) (checkpointRight file && closed) (counted && ended)
 
-  pub other-first : first ≡ false → false ≡ sectionsRight file
+  pub too-many : few ≡ false → false ≡ sectionsRight file
   unfolding sectionsRight
-  other-first a = sym (λ t. a t && second && few)
+  too-many a = sym (λ t. a t && first && second)
 
-  pub other-second : first ≡ true → second ≡ false → false ≡ sectionsRight file
+  pub other-first : few ≡ true → first ≡ false → false ≡ sectionsRight file
   unfolding sectionsRight
-  other-second a b = sym (λ t. a t && b t && few)
+  other-first a b = sym (λ t. a t && b t && second)
 
-  pub by-few : first ≡ true → second ≡ true → few ≡ sectionsRight file
+  pub by-second : few ≡ true → first ≡ true → second ≡ sectionsRight file
   unfolding sectionsRight
-  by-few a b = sym (λ t. a t && b t && few)
+  by-second a b = sym (λ t. a t && b t && second)
 
   pub other-third : third ≡ false → false ≡ checkpointRight file
   unfolding checkpointRight
@@ -151,7 +151,7 @@ module _ (file : List ℕ) where
 
   pub sections-most : sectionsRight file ≡ true → stepCount file ≤ mostSteps
   unfolding sectionsRight
-  sections-most e = leb-true (stepCount file) mostSteps (and-right (first && second) few e)
+  sections-most e = leb-true (stepCount file) mostSteps (and-left few first (and-left (few && first) second e))
 
   module _ (e : contentsRight file ≡ true) where
     contents-sections : sectionsRight file ≡ true

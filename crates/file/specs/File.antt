@@ -118,12 +118,12 @@ entryIs file p kind offset size =
     && eqb (number 4 (byteAt file) (p + 4)) offset
     && eqb (number 4 (byteAt file) (p + 8)) size
 
--- the starting registers, and the steps, n of them from 0 to 2,048
+-- n from 0 to 2,048; the starting registers, and the steps
 unfoldable pub sectionsRight : List ℕ → Bool
 sectionsRight file =
-    entryIs file 4 1 (contentsLength file) registerBytes
+    leb (stepCount file) mostSteps
+    && entryIs file 4 1 (contentsLength file) registerBytes
     && entryIs file 16 2 (stepsBase file) (stepBytes * stepCount file)
-    && leb (stepCount file) mostSteps
 
 -- the checkpoint, with no more steps consumed than there are
 unfoldable pub checkpointRight : List ℕ → Bool

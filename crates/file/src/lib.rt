@@ -1,8 +1,9 @@
 // Trace files, read from lent bytes. Every function open to callers takes every argument.
 ghost use mathlib.Core.Path.{_≡_};
+ghost use mathlib.Core.Bool.{true};
 ghost use Prim.Native.Nat.{_≤_, _<_, _^_};
 ghost use lib.Seq.{sets};
-ghost use Rattle.file.specs.File.{fileRefusalNumber, bytesFrom, hasCheckpoint, contentsLength, stepCount, stepsBase, stepsEnd, consumedIn};
+ghost use Rattle.file.specs.File.{fileRefusalNumber, bytesFrom, hasCheckpoint, contentsLength, stepCount, stepsBase, stepsEnd, stepsIn, consumedIn};
 ghost use Rattle.file.specs.File.{entryIs, sectionsRight, checkpointRight, contentsRight, paddingClear, paddingsClear, openedAs};
 ghost use Rattle.file.specs.File.{recordsIn, callAt, recordOf, readAs, loadedFrom, checkpointIn, storedBytes};
 
@@ -117,15 +118,15 @@ fn entry_is(file: &[u8], at: usize, kind: u16, offset: u32, size: u32) -> bool
 fn sections_right(file: &[u8]) -> bool
     ensures { λ r. ⌜ r ≡ sectionsRight (now (file .entry)) ⌝ }
 {
+    let n = step_count(file);
+    if 2048 < n {
+        return false;
+    }
     let length = contents_length(file) as u32;
     if !entry_is(file, 4, 1, length, 5120) {
         return false;
     }
-    let n = step_count(file);
-    if !entry_is(file, 16, 2, length + 5120, 16 * n) {
-        return false;
-    }
-    n <= 2048
+    entry_is(file, 16, 2, length + 5120, 16 * n)
 }
 
 // The third entry, and what was consumed.
@@ -184,6 +185,17 @@ fn paddings_clear(steps: &[u8], n: usize) -> bool
     true
 }
 
+// The padding of all steps, where the table is right.
+fn file_paddings_clear(file: &[u8]) -> bool
+    requires { ⌜ contentsRight (now file) ≡ true ⌝ }
+    ensures { λ r. ⌜ r ≡ paddingsClear (stepsIn (now (file .entry))) (stepCount (now (file .entry))) ⌝ }
+{
+    let n = step_count(file) as usize;
+    let base = steps_base(file);
+    let end = base + 16 * n;
+    paddings_clear(&file[base..end], n)
+}
+
 // Whether a file is accepted, before any step is run.
 pub fn open(file: &[u8]) -> Opened
     ensures { λ r. ⌜ r ≡ openedAs (now (file .entry)) ⌝ }
@@ -194,13 +206,10 @@ pub fn open(file: &[u8]) -> Opened
     if !contents_right(file) {
         return Opened::Refused(FileRefusal::Contents);
     }
-    let n = step_count(file) as usize;
-    let base = steps_base(file);
-    let end = base + 16 * n;
-    if !paddings_clear(&file[base..end], n) {
+    if !file_paddings_clear(file) {
         return Opened::Refused(FileRefusal::Padding);
     }
-    Opened::Steps(n)
+    Opened::Steps(step_count(file) as usize)
 }
 
 // ---- reading, from the bytes of the second section or of a part of it

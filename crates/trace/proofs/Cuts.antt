@@ -13,7 +13,7 @@ use Rattle.file.specs.File.{bytesFrom, hasCheckpoint, checkpointLength, content
 use Rattle.file.specs.File.{registersIn, startOf, stepsIn, consumedIn, savedIn, calls, checkpointOf}
 use Rattle.file.specs.File.{entryIs, sectionsRight, checkpointRight, contentsRight, paddingsClear, openedAs}
 use Rattle.file.proofs.Parts.{length-from}
-use Rattle.file.proofs.Contents.{length-three, consumed-some, by-few, by-consumed, by-closed}
+use Rattle.file.proofs.Contents.{length-three, consumed-some, by-second, by-consumed, by-closed}
 use Rattle.file.proofs.States.{length-start, resumed-saved}
 use Rattle.file.proofs.Accepted.{opened-steps, accepted-count, accepted-most, accepted-paddings}
 use Rattle.steps.proofs.Turns.{length-run}
@@ -154,11 +154,10 @@ module _ (whole : List ℕ) (steps : ℕ) (opened : openedAs whole ≡ Steps ste
 
   sections : sectionsRight file ≡ true
   sections =
-      sym (by-few file
-      (ap (λ (m : ℕ). entryIs file 4 1 m 5120) size ∙ entry-stands file 4 1 40 5120 first-stands (omega arith) (omega arith) (omega arith))
-      ((λ i. entryIs file 16 2 (base i) (16 * counted i))
-      ∙ entry-stands file 16 2 5160 (16 * n) second-stands (omega arith) (omega arith) (omega (arith, most))))
-      ∙ le-leb (stepCount file) 2048 (omega (arith, counted, most))
+      sym (by-second file (le-leb (stepCount file) 2048 (omega (arith, counted, most)))
+      (ap (λ (m : ℕ). entryIs file 4 1 m 5120) size ∙ entry-stands file 4 1 40 5120 first-stands (omega arith) (omega arith) (omega arith)))
+      ∙ (λ i. entryIs file 16 2 (base i) (16 * counted i))
+      ∙ entry-stands file 16 2 5160 (16 * n) second-stands (omega arith) (omega arith) (omega (arith, most))
 
   checkpoint : checkpointRight file ≡ true
   checkpoint =

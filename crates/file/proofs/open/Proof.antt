@@ -2,8 +2,7 @@ use mathlib.Core.Path.{sym, ap, _∙_}
 use native.Mathlib.Omega.{arith}
 use borrow.Author.Tests.{not-true, not-false}
 use Rattle.file.specs.declared.Opened.the-variants.{Steps}
-use Rattle.file.proofs.Contents.{contents-most}
-use Rattle.file.proofs.Accepted.{opened-short, opened-contents, opened-padding, opened-steps, steps-end, paddings-part}
+use Rattle.file.proofs.Accepted.{opened-short, opened-contents, opened-padding, opened-steps}
 use borrow.Author.Needs.{needs}
 use Rattle.file.proofs.open.Statement.{statement}
 use Rattle.file.proofs.open.Tie as tie
@@ -29,80 +28,39 @@ returns-2 c =
     opened-contents file (omega (arith, size .contents-length .ensures .0, long .if1 .left))
     (sym (contents .contents-right .ensures) ∙ not-true (contents .contents-right .result) (c .if2 .taken))
 
-step-count-requires : tie.Need-step-count-requires
-step-count-requires c κs = search needs
-
-cast-n : tie.Need-cast-n
-cast-n c = search needs
-
-steps-base-requires : tie.Need-steps-base-requires
-steps-base-requires c κs = search needs
-
-mul-end : tie.Need-mul-end
-mul-end c = search needs
-
-add-end : tie.Need-add-end
-add-end c = search needs
-
-sub-paddings-clear : tie.Need-sub-paddings-clear
-sub-paddings-clear c = search needs
-
-part-paddings-clear-start : tie.Need-part-paddings-clear-start
-part-paddings-clear-start c = search needs
-
-part-paddings-clear-end : tie.Need-part-paddings-clear-end
-part-paddings-clear-end c =
-    let count = c .before in
-    let right = count .before in
-    let contents = right .before in
-    let file = contents .before .before .before .before .args .file .now in
-    steps-end file (sym (contents .contents-right .ensures) ∙ not-false (contents .contents-right .result) (right .if2 .left))
-    (c .steps-base .result) (count .step-count .result) (c .steps-base .ensures .0) (count .step-count .ensures .0)
-
-paddings-clear-requires : tie.Need-paddings-clear-requires
-paddings-clear-requires c κs =
-    let count = c .before .before in
-    let right = count .before in
-    let contents = right .before in
-    let file = contents .before .before .before .before .args .file .now in
-    omega (
-      arith,
-      contents-most file (sym (contents .contents-right .ensures) ∙ not-false (contents .contents-right .result) (right .if2 .left)),
-      count .step-count .ensures .0,
-    )
+file-paddings-clear-requires : tie.Need-file-paddings-clear-requires
+file-paddings-clear-requires c κs =
+    let contents = c .before in
+    sym (contents .contents-right .ensures) ∙ not-false (contents .contents-right .result) (c .if2 .left)
 
 returns-3 : tie.Need-returns-3
 returns-3 c =
     let clear = c .before in
-    let base = clear .before .before in
-    let count = base .before in
-    let right = count .before in
-    let contents = right .before in
+    let told = clear .before in
+    let contents = told .before in
     let long = contents .before in
     let size = long .before in
-    let file = size .before .before .args .file .now in
-    let whole = sym (contents .contents-right .ensures) ∙ not-false (contents .contents-right .result) (right .if2 .left) in
-    opened-padding file (omega (arith, size .contents-length .ensures .0, long .if1 .left)) whole
-    (paddings-part file whole (base .steps-base .result) (count .step-count .result) (base .steps-base .ensures .0) (count .step-count .ensures .0)
-    (clear .paddings-clear .result) (clear .paddings-clear .ensures)
-    ∙ not-true (clear .paddings-clear .result) (c .if3 .taken))
+    opened-padding (size .before .before .args .file .now) (omega (arith, size .contents-length .ensures .0, long .if1 .left))
+    (sym (contents .contents-right .ensures) ∙ not-false (contents .contents-right .result) (told .if2 .left))
+    (sym (clear .file-paddings-clear .ensures) ∙ not-true (clear .file-paddings-clear .result) (c .if3 .taken))
+
+step-count-requires : tie.Need-step-count-requires
+step-count-requires c κs = search needs
+
+cast-t2 : tie.Need-cast-t2
+cast-t2 c = search needs
 
 returns-4 : tie.Need-returns-4
 returns-4 c =
-    let clear = c .before in
-    let base = clear .before .before in
-    let count = base .before in
-    let right = count .before in
-    let contents = right .before in
-    let long = contents .before in
-    let size = long .before in
-    let file = size .before .before .args .file .now in
-    let whole = sym (contents .contents-right .ensures) ∙ not-false (contents .contents-right .result) (right .if2 .left) in
-    ap Steps (count .step-count .ensures .0)
-    ∙ opened-steps file (omega (arith, size .contents-length .ensures .0, long .if1 .left)) whole
-    (paddings-part file whole (base .steps-base .result) (count .step-count .result) (base .steps-base .ensures .0) (count .step-count .ensures .0)
-    (clear .paddings-clear .result) (clear .paddings-clear .ensures)
-    ∙ not-false (clear .paddings-clear .result) (c .if3 .left))
+    let known = c .before in
+    let clear = known .before in
+    let told = clear .before in
+    let contents = told .before in
+    let size = contents .before .before in
+    ap Steps (c .step-count .ensures .0)
+    ∙ opened-steps (size .before .before .args .file .now) (omega (arith, size .contents-length .ensures .0, contents .before .if1 .left))
+    (sym (contents .contents-right .ensures) ∙ not-false (contents .contents-right .result) (told .if2 .left))
+    (sym (clear .file-paddings-clear .ensures) ∙ not-false (clear .file-paddings-clear .result) (known .if3 .left))
 
 pub open-spec : {M : Type 1} → statement M
 open-spec =
@@ -112,14 +70,8 @@ open-spec =
     returns
     contents-right-requires
     returns-2
-    step-count-requires
-    cast-n
-    steps-base-requires
-    mul-end
-    add-end
-    sub-paddings-clear
-    part-paddings-clear-start
-    part-paddings-clear-end
-    paddings-clear-requires
+    file-paddings-clear-requires
     returns-3
+    step-count-requires
+    cast-t2
     returns-4)
