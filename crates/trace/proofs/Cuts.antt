@@ -178,16 +178,16 @@ module _ (whole : List ℕ) (steps : ℕ) (opened : openedAs whole ≡ Steps ste
       ∙ ap Steps (counted ∙ accepted-count whole steps opened)
 
   goes-on : hasCheckpoint whole ≡ false → Resumes file whole
-  goes-on two = record {
-    uncut = two;
+  goes-on plain = record {
+    uncut = plain;
     registers = registers;
     steps = λ i. calls (same-steps i) (counted i);
     saved = resumed-saved file three ∙ saved ∙ ap (stoppedAt whole) (sym consumed);
   }
 
 pub every-cut : EveryCut
-every-cut whole steps opened two k within = (
+every-cut whole steps opened plain k within = (
   accepted whole steps opened k within,
   consumed whole steps opened k within,
-  goes-on whole steps opened k within two,
+  goes-on whole steps opened k within plain,
 )
