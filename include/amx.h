@@ -12,6 +12,8 @@ extern "C" {
 #define AMX_STATE_LENGTH 5128
 // Where the count lies; the registers are the bytes before it.
 #define AMX_COUNT_AT 5120
+// The length in bytes of a trace's third section, its checkpoint: the steps consumed, a little-endian u32, then the state.
+#define AMX_CHECKPOINT_LENGTH 5132
 
 // Instructions: 14 is mac16, 18 is vecint. Generations: 1 is M1, 2 is M2. vecint with a shuffle (bits 27..30 not all 0 outside ALU mode 4) is
 // not covered and refused 4; with an indexed load (bit 53) it is done as ALU mode 0.
@@ -33,6 +35,12 @@ uint64_t amx_normal_answer(uint64_t instruction, uint64_t generation, uint64_t o
 // The normal operand: the operand with its ignored bits cleared; with it the step has the same answer and effect on every state, with every
 // serial. The operand as given where the step would not be done.
 uint64_t amx_normal_operand(uint64_t instruction, uint64_t generation, uint64_t operand);
+
+// Writes the checkpoint of a trace that is stopped after `consumed` of its steps, refused ones counted, at the start of `out`: the third section
+// that a trace file needs to go on from `state`. `state` points to `length` bytes and `out` to `out_length`; the two may not overlap, and each
+// may be any pointer that is not null where its length is 0. Answers AMX_CHECKPOINT_LENGTH, or 0 where no byte was written: `length` is not
+// AMX_STATE_LENGTH, or `out_length` is under AMX_CHECKPOINT_LENGTH, or `consumed` is 2^32 or more. Bytes of `out` behind the section stay.
+uint64_t amx_checkpoint(const uint8_t *state, uint64_t length, uint64_t consumed, uint8_t *out, uint64_t out_length);
 
 #ifdef __cplusplus
 }

@@ -11,6 +11,9 @@ import struct
 
 REGISTERS, MAC16, VECINT = 5120, 14, 18
 LAST = (1 << 64) - 1
+# a state, and a trace's third section: the steps consumed, then the state
+STATE = REGISTERS + 8
+THIRD = 4 + STATE
 
 
 def bits(op, low, count):
@@ -216,26 +219,72 @@ def vecint_answer(state, generation, op):
     return f"done {vecint(state, generation, op)}"
 
 
+def table(n, sections):
+    """The table of a trace of n steps, and of a third section where it has one."""
+    at = 4 + 12 * sections
+    entries = [(1, 0, at, REGISTERS), (2, 0, at + REGISTERS, 16 * n), (3, 0, at + REGISTERS + 16 * n, THIRD)][:sections]
+    return struct.pack("<I", sections) + b"".join(struct.pack("<HHII", *entry) for entry in entries)
+
+
+def number_at(file, at):
+    return int.from_bytes(file[at:at + 4], "little")
+
+
+def send(state, record):
+    return step(state, record[0], record[1], record[3], taken(state))
+
+
+def refusal(file):
+    """The number of a file's refusal, or None."""
+    sections = number_at(file, 0)
+    if len(file) < 28 or sections == 3 and len(file) < 40:
+        return 5
+    n = number_at(file, 24) // 16
+    if sections not in (2, 3) or n > 2048:
+        return 6
+    head = table(n, sections)
+    third = len(head) + REGISTERS + 16 * n
+    if not file.startswith(head) or len(file) != third + (THIRD if sections == 3 else 0) or number_at(file, third) > n:
+        return 6
+    return 7 if any(any(r[2]) for r in records_of(file)) else None
+
+
+def records_of(file):
+    """The steps of a file whose table is right: instruction, generation, padding and operand of each."""
+    at = 4 + 12 * number_at(file, 0) + REGISTERS
+    return [struct.unpack_from("<BB6sQ", file, at + 16 * i) for i in range(number_at(file, 24) // 16)]
+
+
 def text(file):
-    if len(file) < 28:
-        return "file refused 5\n"
-    fields = struct.unpack_from("<IHHIIHHII", file)
-    n = fields[8] // 16
-    if fields != (2, 1, 0, 28, REGISTERS, 2, 0, 5148, 16 * n) or n > 2048 or len(file) != 5148 + 16 * n:
-        return "file refused 6\n"
-    records = [struct.unpack_from("<BB6sQ", file, 5148 + 16 * i) for i in range(n)]
-    if any(any(r[2]) for r in records):
-        return "file refused 7\n"
-    start = file[28:5148]
-    state = bytearray(start + bytes(8))
-    lines = [f"step {i} {step(state, r[0], r[1], r[3], taken(state))}" for i, r in enumerate(records)]
+    refused = refusal(file)
+    if refused:
+        return f"file refused {refused}\n"
+    resumed, records = number_at(file, 0) == 3, records_of(file)
+    at = 40 if resumed else 28
+    start = file[at:at + REGISTERS]
+    consumed, state = (number_at(file, len(file) - THIRD), bytearray(file[-STATE:])) if resumed else (0, bytearray(start + bytes(8)))
+    lines = [f"step {i} {send(state, r)}" for i, r in enumerate(records) if i >= consumed]
     lines += [f"z {r} {z_row(state, r).hex()}" for r in range(64) if z_row(state, r) != z_row(start, r)]
-    return "\n".join(lines + [f"steps {n}"]) + "\n"
+    return "\n".join(lines + [f"steps {len(records)}"]) + "\n"
 
 
 def trace(registers, steps):
-    head = struct.pack("<IHHIIHHII", 2, 1, 0, 28, REGISTERS, 2, 0, 5148, 16 * len(steps))
-    return head + bytes(registers) + b"".join(struct.pack("<BB6xQ", *s) for s in steps)
+    return table(len(steps), 2) + bytes(registers) + b"".join(struct.pack("<BB6xQ", *s) for s in steps)
+
+
+def resumed(file, consumed, state):
+    """The file of three sections that goes on with a file of two after so many of its steps, from this state."""
+    return table(number_at(file, 24) // 16, 3) + file[28:] + struct.pack("<I", consumed) + bytes(state)
+
+
+def cut(file, consumed, count=None):
+    """The same from the state that these steps left, which may get another count."""
+    state = bytearray(file[28:28 + REGISTERS] + bytes(8))
+    for record in records_of(file)[:consumed]:
+        send(state, record)
+    if count is not None:
+        state[REGISTERS:] = count.to_bytes(8, "little")
+    return resumed(file, consumed, state)
 
 
 # ---- the traces
@@ -321,22 +370,52 @@ def any_step(rng):
     return VECINT, 2 if alu >= 10 else generation, op if alu == 4 else op & ~(15 << 27)
 
 
+def changed(file, at, new, size=1):
+    return file[:at] + new.to_bytes(size, "little") + file[at + size:]
+
+
 def damaged():
     """Files that are refused: by one change to a file of three steps, or by their length."""
     good = trace(bytes(REGISTERS), [call(MAC16, 1, vector=1)] * 3)
-
-    def changed(at, new, size=1):
-        return good[:at] + new.to_bytes(size, "little") + good[at + size:]
-
-    yield from (("short_0", b""), ("short_27", good[:27]), ("contents_alone", good[:28]), ("count_1", changed(0, 1)), ("count_high_byte", changed(3, 1)))
+    yield from (("short_0", b""), ("short_27", good[:27]), ("contents_alone", good[:28]), ("count_1", changed(good, 0, 1)))
+    yield from (("count_high_byte", changed(good, 3, 1)), ("count_3", changed(good, 0, 3)))
     for entry, at, offset, length in (("first", 4, 28, REGISTERS), ("second", 16, 5148, 48)):
-        yield from ((f"{entry}_kind", changed(at, 3)), (f"{entry}_zero", changed(at + 2, 1)), (f"{entry}_offset", changed(at + 4, offset + 1, 4)))
-        yield from ((f"{entry}_length_short", changed(at + 8, length - 1, 4)), (f"{entry}_length_long", changed(at + 8, length + 1, 4)))
-    yield from (("second_length_step_short", changed(24, 32)), ("second_length_step_long", changed(24, 64)))
+        yield from ((f"{entry}_kind", changed(good, at, 3)), (f"{entry}_zero", changed(good, at + 2, 1)))
+        yield f"{entry}_offset", changed(good, at + 4, offset + 1, 4)
+        yield f"{entry}_length_short", changed(good, at + 8, length - 1, 4)
+        yield f"{entry}_length_long", changed(good, at + 8, length + 1, 4)
+    yield from (("second_length_step_short", changed(good, 24, 32)), ("second_length_step_long", changed(good, 24, 64)))
     yield from (("byte_short", good[:-1]), ("byte_long", good + bytes(1)), ("step_long", good + bytes(16)))
-    yield from (("padding_first", changed(5150, 1)), ("padding_last", changed(5187, 128)), ("padding_and_byte_long", changed(5150, 1) + bytes(1)))
+    yield from (("padding_first", changed(good, 5150, 1)), ("padding_last", changed(good, 5187, 128)))
+    yield "padding_and_byte_long", changed(good, 5150, 1) + bytes(1)
     yield "most_steps_and_a_byte", trace(bytes(REGISTERS), [(0, 0, 0)] * 2048) + bytes(1)
     yield "too_many_steps", trace(bytes(REGISTERS), [(0, 0, 0)] * 2049)
+
+
+def stopped(rng):
+    """Files of three sections: what is left of a run that was stopped, at its ends and between, past refused steps, and from other states."""
+    yield from ((f"resumed_{place}", cut(product(), consumed)) for place, consumed in (("at_start", 0), ("in_middle", 5), ("at_end", 14)))
+    registers = bytearray(REGISTERS)
+    registers[0], registers[512] = 3, 2
+    kinds = [call(MAC16, 1, vector=1), (VECINT, 1, 1 << 54), (MAC16, 3, 0), (13, 1, 0), (VECINT, 1, 1 << 27)]  # done, no-op 1, refused 2, 3 and 4
+    whole = trace(registers, 2 * kinds)
+    yield "resumed_past_refused", cut(whole, 5)
+    yield from (("resumed_at_last_count", cut(whole, 5, LAST)), ("resumed_before_last_count", cut(whole, 5, LAST - 1)))
+    yield "resumed_from_another_state", resumed(whole, 3, rng.randbytes(STATE))
+    most = cut(trace(rng.randbytes(REGISTERS), [any_step(rng) for _ in range(2048)]), 2040)
+    yield from (("resumed_most_steps", most), ("resumed_most_steps_and_a_byte", most + bytes(1)))
+
+
+def damaged_third():
+    """Files of three sections that are refused: by one change to one of three steps, two of them consumed, or by their length."""
+    good = cut(trace(bytes(REGISTERS), [call(MAC16, 1, vector=1)] * 3), 2)
+    at = 5160 + 48
+    above = changed(good, at, 4)
+    yield from (("three_sections_in_39_bytes", good[:39]), ("four_sections_in_39_bytes", changed(good[:39], 0, 4)))
+    yield from (("third_kind", changed(good, 28, 2)), ("third_zero", changed(good, 30, 1)), ("third_offset", changed(good, 32, at + 1, 4)))
+    yield from (("third_length", changed(good, 36, THIRD - 1, 4)), ("third_byte_short", good[:-1]), ("third_byte_long", good + bytes(1)))
+    yield from (("consumed_above", above), ("padding_consumed", changed(good, 5162, 1)))
+    yield "padding_and_consumed_above", changed(above, 5162, 1)
 
 
 def stored():
@@ -350,6 +429,8 @@ def stored():
     yield "mixed_widths", mixed_widths(rng)
     yield "indexed_loads", indexed_loads(rng)
     yield from damaged()
+    yield from stopped(rng)
+    yield from damaged_third()
 
 
 def write(crate, traces, named, unread):

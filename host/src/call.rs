@@ -110,6 +110,22 @@ pub fn step_bytes(state: &mut [u8], instruction: u64, generation: u64, operand: 
     answered(unit::step(state, instruction, generation, operand, serial))
 }
 
+/// Writes the checkpoint of a trace that is stopped after some steps, its third section, at the start of `out`: the steps consumed as a
+/// u32, then the state. How many bytes were written: [`CHECKPOINT_LENGTH`](crate::CHECKPOINT_LENGTH), or 0 where the state has not
+/// [`STATE_LENGTH`](crate::STATE_LENGTH) bytes, `out` has not so much room, or `consumed` is no u32. [`Trace`](crate::Trace) does this
+/// for whole files.
+///
+/// ```
+/// use amx::{CHECKPOINT_LENGTH, State, checkpoint_bytes};
+/// let mut out = [9; CHECKPOINT_LENGTH + 1];
+/// assert_eq!(checkpoint_bytes(State::new().bytes(), 258, &mut out), CHECKPOINT_LENGTH);
+/// assert_eq!((&out[..5], out[CHECKPOINT_LENGTH]), (&[2, 1, 0, 0, 0][..], 9));
+/// assert_eq!(checkpoint_bytes(State::new().bytes(), 1 << 32, &mut out), 0);
+/// ```
+pub fn checkpoint_bytes(state: &[u8], consumed: u64, out: &mut [u8]) -> usize {
+    unit::checkpoint(state, consumed, out) as usize
+}
+
 /// The normal operand of a call: its ignored bits cleared. The step with it has the same answer and effect on every state, with every
 /// serial. An error is the step's own no-op, or its refusal of the generation, the instruction or a shuffle.
 ///
@@ -152,6 +168,7 @@ fn answered(number: u64) -> Answer {
 mod unit {
     unsafe extern "C" {
         fn amx_step(state: *mut u8, length: u64, instruction: u64, generation: u64, operand: u64, serial: u64) -> u64;
+        fn amx_checkpoint(state: *const u8, length: u64, consumed: u64, out: *mut u8, out_length: u64) -> u64;
         #[link_name = "amx_normal_answer"]
         pub safe fn normal_answer(instruction: u64, generation: u64, operand: u64) -> u64;
         #[link_name = "amx_normal_operand"]
@@ -161,6 +178,12 @@ mod unit {
     pub fn step(state: &mut [u8], instruction: u64, generation: u64, operand: u64, serial: u64) -> u64 {
         // SAFETY: pointer and length are of one slice, lent to this call alone; amx_step keeps neither and takes every number
         unsafe { amx_step(state.as_mut_ptr(), state.len() as u64, instruction, generation, operand, serial) }
+    }
+
+    pub fn checkpoint(state: &[u8], consumed: u64, out: &mut [u8]) -> u64 {
+        // SAFETY: each pointer and its length are of one slice, `out` lent to this call alone; amx_checkpoint keeps neither, writes to
+        // `out` alone and takes every number
+        unsafe { amx_checkpoint(state.as_ptr(), state.len() as u64, consumed, out.as_mut_ptr(), out.len() as u64) }
     }
 }
 

@@ -4,7 +4,7 @@
 //!   length. A call names the count before it, its serial, so that one sent twice adds once.
 //! - [`Answer`] tells a step that was done from a no-op and a refusal, with the reason.
 //! - [`Mac16`] and [`Vecint`] build operands by field; [`explain`] goes back, with the ignored bits; [`normal`] clears those.
-//! - [`Trace`] reads and writes trace files, and [`text`] their texts.
+//! - [`Trace`] reads and writes trace files, whole ones and such as go on from a [`Checkpoint`]; [`text`] does so with their texts.
 //! - [`mod@reference`] is a second program for the same pages. Nothing here relies on it but [`lane_grid`]; the `compare` program runs both.
 //!
 //! ```
@@ -20,7 +20,7 @@
 //! assert_eq!(state.signed_lane(Register::Z(0), 0, Width::Bits16), -255);
 //! # Ok::<(), amx::FieldError>(())
 //! ```
-#![deny(unsafe_code)] // but for the three calls of libamx.a
+#![deny(unsafe_code)] // but for the four calls of libamx.a
 #![warn(missing_docs)]
 
 mod answer;
@@ -34,8 +34,8 @@ pub mod text;
 mod trace;
 
 pub use answer::{Answer, Reason, Refusal};
-pub use call::{Call, Generation, Instruction, normal, run, step, step_bytes};
+pub use call::{Call, Generation, Instruction, checkpoint_bytes, normal, run, step, step_bytes};
 pub use explain::{Explanation, explain, lane_grid};
 pub use operand::{Field, FieldError, IndexBits, Mac16, Side, Vecint, Vectors, When, fields, with_field};
 pub use state::{REGISTER_BYTES, Register, STATE_LENGTH, State, Width};
-pub use trace::{FileRefusal, NoRecord, Record, Trace, TraceFull};
+pub use trace::{CHECKPOINT_LENGTH, Checkpoint, FileRefusal, NoCheckpoint, NoRecord, Record, Trace, TraceFull};

@@ -1,5 +1,5 @@
 //! The command `amx`: steps as text, trace files, and operands explained.
-use amx::{Call, Trace, explain, lane_grid, text};
+use amx::{Call, FileRefusal, Trace, explain, lane_grid, text};
 use std::{
     ffi::OsString,
     fs,
@@ -14,6 +14,8 @@ amx: the proved AMX integer unit, by hand
   amx asm TEXT -o TRACE   makes a trace file of a text of steps
   amx dis TRACE           prints the text of a trace file; asm makes the same file of it
   amx run FILE            runs a trace file, or a text of steps, and prints what each step answers and the rows of Z that changed
+  amx cut FILE --after K -o TRACE
+                          runs the first K steps of a trace file, or of a text, and makes a trace file that goes on from there
   amx explain STEP        explains an operand field by field, with the ignored bits, the normal operand and the answer
   amx lanes STEP          shows which Z lanes a step enables: a line for each row that has any, # for an enabled lane
   amx --help              prints this
@@ -33,6 +35,8 @@ A text has one step in a line; what follows a # is a comment:
   vecint m1 indexed index_register=3  X by the indices at its offset, into its register 3; index_y for Y
   vecint m1 bits=0x200                bits that have no name
   raw 18 2 0x80000000                 a step by its numbers, any
+  checkpoint                          the steps above are consumed; the lines of a state that follow are what the rest goes on from:
+  count: 2                            its count of steps taken, and its bytes by x:, y: and z N:; what is not given is 0
 
   mac16 fields:   vector z_i32 x_i8 y_i8 shift x_enable_mode x_enable_value y_enable_mode y_enable_value skip_x skip_y skip_z z_row x y
   vecint fields:  mode widths shift z_row x y x_signed y_signed
@@ -43,6 +47,8 @@ A text has one step in a line; what follows a # is a comment:
 
 An error names the line and what was expected, ends with status 1 and writes no file.
 ";
+
+const COMMANDS: &str = "asm, dis, run, cut, explain or lanes";
 
 fn main() -> ExitCode {
     let arguments: Vec<String> = match std::env::args_os().skip(1).map(|argument| argument.into_string()).collect() {
@@ -73,11 +79,10 @@ struct Output {
 fn answer(arguments: &[String]) -> Result<Output, String> {
     let words: Vec<&str> = arguments.iter().map(String::as_str).collect();
     let text = match words.as_slice() {
-        [] => return Err(format!("expected asm, dis, run, explain or lanes\n\n{HELP}")),
+        [] => return Err(format!("expected {COMMANDS}\n\n{HELP}")),
         words if words.iter().any(|&word| word == "--help" || word == "-h") => HELP.to_owned(),
         ["asm", text, "-o", trace] | ["asm", "-o", trace, text] => {
-            let assembled = assemble(text)?;
-            write_whole(Path::new(trace), &assembled.to_bytes()).map_err(|error| format!("{trace}: {error}"))?;
+            write_trace(trace, &assemble(text, read(text)?)?)?;
             String::new()
         }
         ["asm", ..] => return Err("expected asm TEXT -o TRACE".to_owned()),
@@ -88,9 +93,19 @@ fn answer(arguments: &[String]) -> Result<Output, String> {
         ["dis", ..] => return Err("expected dis TRACE".to_owned()),
         ["run", file] => return run(file),
         ["run", ..] => return Err("expected run FILE, a trace or a text".to_owned()),
+        ["cut", file, "--after", after, "-o", rest]
+        | ["cut", file, "-o", rest, "--after", after]
+        | ["cut", "--after", after, "-o", rest, file]
+        | ["cut", "-o", rest, "--after", after, file] => {
+            let consumed = text::parse_number(after).map_err(|error| format!("--after: {error}"))?;
+            let trace = open(file)?.map_err(|refusal| format!("{file}: {refusal:#}"))?;
+            write_trace(rest, &trace.cut(consumed as usize).map_err(|error| format!("{file}: {error}"))?)?;
+            String::new()
+        }
+        ["cut", ..] => return Err("expected cut FILE --after K -o TRACE, FILE a trace or a text".to_owned()),
         ["explain", step @ ..] => explain(parse_step("explain", step)?).map_err(|refusal| format!("{refusal:#}"))?.to_string(),
         ["lanes", step @ ..] => lane_grid(parse_step("lanes", step)?),
-        [other, ..] => return Err(format!("expected asm, dis, run, explain or lanes, not {other:?}; amx --help tells more")),
+        [other, ..] => return Err(format!("expected {COMMANDS}, not {other:?}; amx --help tells more")),
     };
     Ok(Output { text, status: ExitCode::SUCCESS })
 }
@@ -104,28 +119,34 @@ fn parse_step(command: &str, words: &[&str]) -> Result<Call, String> {
         _ if numbers => text::parse_call(&format!("raw {line}")).map_err(|error| error.replace("after raw", &format!("after {command}"))),
         _ => text::parse_call(&line),
     };
-    call.map_err(|error| error.replace(", or a line of the starting state (x:, y:, z N:)", " or three numbers"))
+    call.map_err(|error| error.replace(", or a line that is no step (x:, y:, z N:, checkpoint)", " or three numbers"))
 }
 
 fn read(file: &str) -> Result<Vec<u8>, String> {
     fs::read(file).map_err(|error| format!("{file}: {error}"))
 }
 
-fn assemble(file: &str) -> Result<Trace, String> {
-    let text = String::from_utf8(read(file)?).map_err(|_| format!("{file}: expected a text in UTF-8"))?;
+fn assemble(file: &str, bytes: Vec<u8>) -> Result<Trace, String> {
+    let text = String::from_utf8(bytes).map_err(|_| format!("{file}: expected a text in UTF-8"))?;
     text::assemble(&text).map_err(|error| format!("{file}, {error}"))
+}
+
+/// A trace file, which may be refused, or a text.
+fn open(file: &str) -> Result<Result<Trace, FileRefusal>, String> {
+    let bytes = read(file)?;
+    if bytes.contains(&0) { Ok(Trace::from_bytes(&bytes)) } else { assemble(file, bytes).map(Ok) }
 }
 
 /// The text of a run; that of a refused trace has status 1.
 fn run(file: &str) -> Result<Output, String> {
-    let bytes = read(file)?;
-    if !bytes.contains(&0) {
-        return Ok(Output { text: assemble(file)?.text(), status: ExitCode::SUCCESS });
-    }
-    Ok(match Trace::from_bytes(&bytes) {
+    Ok(match open(file)? {
         Ok(trace) => Output { text: trace.text(), status: ExitCode::SUCCESS },
         Err(refusal) => Output { text: format!("{refusal}\n"), status: ExitCode::FAILURE },
     })
+}
+
+fn write_trace(file: &str, trace: &Trace) -> Result<(), String> {
+    write_whole(Path::new(file), &trace.to_bytes()).map_err(|error| format!("{file}: {error}"))
 }
 
 /// Writes a file whole or not at all: under another name first. What is no file (a pipe, a device) is written to as it is.

@@ -1,6 +1,6 @@
 //! Random calls and states for comparisons and benchmarks, the same for the same seed.
 
-use crate::{Call, REGISTER_BYTES, State};
+use crate::{Call, REGISTER_BYTES, Record, State, Trace};
 
 /// A source of random numbers (splitmix64).
 #[derive(Clone, Debug)]
@@ -69,6 +69,23 @@ impl Random {
             call.generation = self.odd_number();
         }
         call
+    }
+
+    /// A record of such a call: the low bytes of odd numbers are as odd.
+    pub fn record(&mut self) -> Record {
+        let Call { instruction, generation, operand } = self.call();
+        Record { instruction: instruction as u8, generation: generation as u8, operand }
+    }
+
+    /// A trace of so many such records.
+    ///
+    /// # Panics
+    ///
+    /// Where a trace does not hold as many.
+    pub fn trace(&mut self, records: usize) -> Trace {
+        let mut trace = Trace::new(self.state());
+        (0..records).for_each(|_| trace.push(self.record()).expect("a trace holds as many records"));
+        trace
     }
 
     /// A call of mac16 or vecint on M1 or M2.

@@ -1,4 +1,5 @@
-//! A second program for the same pages: both instructions, the normal operand, the terms of the swap rule and the trace text.
+//! A second program for the same pages: both instructions, the normal operand, the terms of the swap rule, the trace text, and traces cut
+//! in two.
 //!
 //! Written from the scope's text lane by lane, for plainness and not for speed. It shares no code with the proved unit nor with the rest
 //! of this crate, so that a misreading in one of them shows when they are compared. Answers are the host's numbers: the Z bytes in
@@ -13,6 +14,9 @@ const Z: usize = 1_024;
 /// The bytes of X, Y and Z. The count of steps taken follows them and ends the state.
 const REGISTERS: usize = 5_120;
 const LENGTH: usize = REGISTERS + 8;
+
+/// The bytes of a trace's third section: the steps consumed, then the state.
+const CHECKPOINT: usize = 4 + LENGTH;
 
 fn bits(operand: u64, low: u32, high: u32) -> usize {
     (operand >> low & ((2 << (high - low)) - 1)) as usize
@@ -451,52 +455,80 @@ fn vecint_ignored(generation: u64, operand: u64) -> Vec<(u32, u32)> {
     ranges
 }
 
-fn u16_at(file: &[u8], at: usize) -> u64 {
-    number(&file[at..at + 2], false) as u64
+fn u16_at(file: &[u8], at: usize) -> usize {
+    number(&file[at..at + 2], false) as usize
 }
 
-fn u32_at(file: &[u8], at: usize) -> u64 {
-    number(&file[at..at + 4], false) as u64
+fn u32_at(file: &[u8], at: usize) -> usize {
+    number(&file[at..at + 4], false) as usize
 }
 
-/// The text that the trace program prints for a file: the lines of its steps and changed rows, or the refusal of the file.
-pub fn trace(file: &[u8]) -> String {
-    match refused_file(file) {
-        Some(refusal) => format!("file refused {refusal}\n"),
-        None => traced(file),
-    }
+/// An accepted trace file.
+struct Opened<'a> {
+    /// The starting registers.
+    start: &'a [u8],
+    /// The steps, 16 bytes each.
+    records: &'a [u8],
+    /// How many of them are consumed, and the state to go on from.
+    consumed: usize,
+    state: Vec<u8>,
 }
 
-fn refused_file(file: &[u8]) -> Option<u64> {
+/// The sections of a trace file, or the number of its refusal.
+fn opened(file: &[u8]) -> Result<Opened<'_>, u64> {
     if file.len() < 28 {
-        return Some(5);
+        return Err(5);
+    }
+    let sections = u32_at(file, 0);
+    if sections == 3 && file.len() < 40 {
+        return Err(5);
+    }
+    if sections != 2 && sections != 3 {
+        return Err(6);
     }
     let entry = |at| (u16_at(file, at), u16_at(file, at + 2), u32_at(file, at + 4), u32_at(file, at + 8));
+    let first = if sections == 2 { 28 } else { 40 };
+    let second = first + REGISTERS;
     let (kind, zero, offset, length) = entry(16);
-    let sound = u32_at(file, 0) == 2
-        && entry(4) == (1, 0, 28, REGISTERS as u64)
-        && (kind, zero, offset) == (2, 0, 5_148)
-        && length % 16 == 0
-        && length / 16 <= 2_048
-        && file.len() as u64 == 5_148 + length;
-    if !sound {
-        return Some(6);
+    let third = second + length;
+    let steps = length / 16;
+    if entry(4) != (1, 0, first, REGISTERS) || (kind, zero, offset) != (2, 0, second) || length != 16 * steps || steps > 2_048 {
+        return Err(6);
     }
-    let padding_is_0 = file[5_148..].chunks(16).all(|record| record[2..8] == [0; 6]);
-    if padding_is_0 { None } else { Some(7) }
+    if sections == 2 && file.len() != third {
+        return Err(6);
+    }
+    if sections == 3 && (entry(28) != (3, 0, third, CHECKPOINT) || file.len() != third + CHECKPOINT || u32_at(file, third) > steps) {
+        return Err(6);
+    }
+    let (start, records) = (&file[first..second], &file[second..third]);
+    if records.chunks(16).any(|record| record[2..8] != [0; 6]) {
+        return Err(7);
+    }
+    let (consumed, state) = match sections {
+        // a run starts at count 0
+        2 => (0, [start, &[0; 8]].concat()),
+        _ => (u32_at(file, third), file[third + 4..].to_vec()),
+    };
+    Ok(Opened { start, records, consumed, state })
 }
 
-fn traced(file: &[u8]) -> String {
-    let start = &file[28..5_148];
-    // the registers, and a count of 0
-    let mut state = start.to_vec();
-    state.resize(LENGTH, 0);
+/// The step of a record, with the serial due.
+fn step_due(state: &mut [u8], record: &[u8]) -> u64 {
+    let serial = taken(state);
+    step(state, record[0].into(), record[1].into(), u64_in(&record[8..]), serial)
+}
+
+/// The text that the trace program prints for a file: the lines of the steps not yet consumed and of changed rows, or the refusal of the
+/// file.
+pub fn trace(file: &[u8]) -> String {
+    let Opened { start, records, consumed, mut state } = match opened(file) {
+        Ok(opened) => opened,
+        Err(refusal) => return format!("file refused {refusal}\n"),
+    };
     let mut text = String::new();
-    let records = file[5_148..].chunks(16);
-    let count = records.len();
-    for (place, record) in records.enumerate() {
-        let serial = taken(&state);
-        let answer = step(&mut state, record[0].into(), record[1].into(), u64_in(&record[8..]), serial);
+    for (place, record) in records.chunks(16).enumerate().skip(consumed) {
+        let answer = step_due(&mut state, record);
         let words = match answer {
             REFUSED.. => format!("refused {}", answer - REFUSED),
             NO_OP.. => format!("no-op {}", answer - NO_OP),
@@ -506,10 +538,38 @@ fn traced(file: &[u8]) -> String {
     }
     for row in 0..64 {
         let bytes = Z + 64 * row..Z + 64 * row + 64;
+        // whatever the state was that the run went on from
         if state[bytes.clone()] != start[bytes.clone()] {
             let digits: String = state[bytes].iter().map(|byte| format!("{byte:02x}")).collect();
             text += &format!("z {row} {digits}\n");
         }
     }
-    text + &format!("steps {count}\n")
+    text + &format!("steps {}\n", records.len() / 16)
+}
+
+/// Writes the third section of a trace: the steps consumed as a u32, then the state. How many bytes were written: all or none.
+pub fn checkpoint(state: &[u8], consumed: u64, out: &mut [u8]) -> u64 {
+    if state.len() != LENGTH || out.len() < CHECKPOINT || consumed >= 1 << 32 {
+        return 0;
+    }
+    out[..4].copy_from_slice(&consumed.to_le_bytes()[..4]);
+    out[4..CHECKPOINT].copy_from_slice(state);
+    CHECKPOINT as u64
+}
+
+/// The three-section file of a two-section one whose run is stopped after some of its steps. None where the file is no such file, or has
+/// fewer steps.
+pub fn cut(file: &[u8], consumed: usize) -> Option<Vec<u8>> {
+    let Opened { start, records, mut state, .. } = opened(file).ok()?;
+    if u32_at(file, 0) != 2 || consumed > records.len() / 16 {
+        return None;
+    }
+    for record in records.chunks(16).take(consumed) {
+        step_due(&mut state, record);
+    }
+    let table = [3, 1, 40, 5_120, 2, 5_160, records.len(), 3, 5_160 + records.len(), 5_132];
+    let table: Vec<u8> = table.into_iter().flat_map(|number| (number as u32).to_le_bytes()).collect();
+    let mut third = vec![0; CHECKPOINT];
+    checkpoint(&state, consumed as u64, &mut third);
+    Some([&table, start, records, &third].concat())
 }

@@ -11,10 +11,14 @@
 //! vecint m1 indexed index_4_bits index_register=3 # X by indices of 4 bits into its register 3; index_y for Y
 //! vecint m1 shift=4 bits=0x200                    # bits= sets bits that have no name
 //! raw 18 2 0x8000000000000000                     # a step by its numbers, any
+//! checkpoint                                      # the steps above are consumed, and the rest goes on from this state:
+//! count: 7                                        # its count, and its bytes as above; what is not given is 0
+//! z 3: 0180
+//! mac16 m1 vector                                 # the next step
 //! ```
 
 use crate::{
-    Call, Generation, Instruction, NoRecord, REGISTER_BYTES, Record, Register, State, Trace, fields,
+    Call, Checkpoint, Generation, Instruction, NoRecord, REGISTER_BYTES, Record, Register, STATE_LENGTH, State, Trace, fields,
     operand::{find, place},
     with_field,
 };
@@ -50,13 +54,21 @@ impl std::error::Error for TextError {}
 /// ```
 pub fn assemble(text: &str) -> Result<Trace, TextError> {
     let mut trace = Trace::new(State::new());
-    let mut given = [false; REGISTER_BYTES];
+    // the bytes of the starting state, and then of the checkpoint's
+    let mut given = [false; STATE_LENGTH];
     for (number, line) in text.lines().enumerate() {
         let line = line.split('#').next().unwrap_or_default().trim();
         let assembled = match line.split_once(':') {
             _ if line.is_empty() => Ok(()),
-            Some(_) if !trace.records().is_empty() => Err("lines of the starting state stand before the first step".to_owned()),
-            Some((place, digits)) => state_line(trace.registers_mut(), &mut given, place.trim(), digits),
+            Some(_) if trace.records().len() > consumed(&trace) => {
+                Err("lines of a state stand before the first step, or right after checkpoint".to_owned())
+            }
+            Some((place, number)) if place.trim() == "count" => count_line(&mut trace, &mut given, number.trim()),
+            Some((place, digits)) => state_line(trace.state_mut().registers_mut(), &mut given, place.trim(), digits),
+            None if line.starts_with("checkpoint") => {
+                given = [false; STATE_LENGTH];
+                checkpoint_line(&mut trace, line)
+            }
             None => parse_call(line).and_then(|call| {
                 let record = Record::try_from(call).map_err(|error: NoRecord| error.to_string())?;
                 trace.push(record).map_err(|error| error.to_string())
@@ -69,9 +81,23 @@ pub fn assemble(text: &str) -> Result<Trace, TextError> {
 
 /// The text of a trace: [`assemble`] makes the same trace of it.
 pub fn disassemble(trace: &Trace) -> String {
-    let mut text = String::new();
+    let (above, below) = trace.records().split_at(consumed(trace));
+    let saved = trace.checkpoint().map(|checkpoint| format!("checkpoint\n{}", print_state(&checkpoint.state)));
+    print_state(trace.start()) + &print_records(above) + &saved.unwrap_or_default() + &print_records(below)
+}
+
+fn print_records(records: &[Record]) -> String {
+    records.iter().map(|&record| print_call(record.into()) + "\n").collect()
+}
+
+/// The lines of a state: a count that is not 0, and the rows that are not all 0.
+fn print_state(state: &State) -> String {
+    let mut text = match state.count() {
+        0 => String::new(),
+        count => format!("count: {count}\n"),
+    };
     for register in Register::all() {
-        let row = trace.start().row(register);
+        let row = state.row(register);
         let Some(last) = row.iter().rposition(|&byte| byte != 0) else { continue };
         let digits: String = row[..=last].iter().map(|byte| format!("{byte:02x}")).collect();
         text += &match register {
@@ -80,8 +106,12 @@ pub fn disassemble(trace: &Trace) -> String {
             Register::Z(n) => format!("z {n}: {digits}\n"),
         };
     }
-    trace.records().iter().for_each(|&record| text += &(print_call(record.into()) + "\n"));
     text
+}
+
+/// The steps of a trace that are consumed.
+fn consumed(trace: &Trace) -> usize {
+    trace.checkpoint().map_or(0, |checkpoint| checkpoint.consumed)
 }
 
 /// The call that a line of text describes.
@@ -98,7 +128,9 @@ pub fn parse_call(line: &str) -> Result<Call, String> {
         Some("raw") => return raw(words.collect::<Vec<_>>().as_slice()),
         Some("mac16") => Instruction::Mac16,
         Some("vecint") => Instruction::Vecint,
-        Some(other) => return Err(format!("expected mac16, vecint, raw, or a line of the starting state (x:, y:, z N:), not {other:?}")),
+        Some(other) => {
+            return Err(format!("expected mac16, vecint, raw, or a line that is no step (x:, y:, z N:, checkpoint), not {other:?}"));
+        }
         None => return Err("expected mac16, vecint or raw".to_owned()),
     };
     let generation = match words.next() {
@@ -205,6 +237,30 @@ fn unnamed(instruction: Instruction, generation: Generation, operand: u64, value
     }
 }
 
+/// `checkpoint`: the steps above are consumed.
+fn checkpoint_line(trace: &mut Trace, line: &str) -> Result<(), String> {
+    if line != "checkpoint" {
+        return Err(format!("expected checkpoint alone, after the steps that are consumed, not {line:?}"));
+    }
+    if trace.checkpoint().is_some() {
+        return Err("checkpoint is given twice".to_owned());
+    }
+    let checkpoint = Checkpoint { consumed: trace.records().len(), state: State::new() };
+    trace.set_checkpoint(checkpoint).map_err(|error| error.to_string())
+}
+
+/// `count: N`, of a checkpoint's state.
+fn count_line(trace: &mut Trace, given: &mut [bool], number: &str) -> Result<(), String> {
+    if trace.checkpoint().is_none() {
+        return Err("a run starts at count 0: a count stands after checkpoint".to_owned());
+    }
+    if std::mem::replace(&mut given[REGISTER_BYTES], true) {
+        return Err("count is given twice".to_owned());
+    }
+    trace.state_mut().set_count(parse_number(number)?);
+    Ok(())
+}
+
 /// `x`, `y`: bytes from the first on. `x N`, `y N`, `z N`: bytes of one register.
 fn state_line(registers: &mut [u8], given: &mut [bool], place: &str, digits: &str) -> Result<(), String> {
     let wrong = || format!("expected x, x N, y, y N (N 0 to 7) or z N (0 to 63) before the colon, not {place:?}");
@@ -260,14 +316,34 @@ mod tests {
     fn there_and_back_is_exact() {
         let mut random = Random::new(7);
         for _ in 0..300 {
-            let mut trace = Trace::new(random.state());
-            for _ in 0..random.below(40) {
-                let call = random.call();
-                let record = Record { instruction: call.instruction as u8, generation: call.generation as u8, operand: call.operand };
-                trace.push(record).unwrap();
+            let records = random.below(40);
+            let mut trace = random.trace(records as usize);
+            if random.once_in(2) {
+                let (consumed, mut state) = (random.below(records + 1) as usize, random.state());
+                state.set_count(random.bits());
+                trace.set_checkpoint(Checkpoint { consumed, state }).unwrap();
             }
             assert_eq!(assemble(&disassemble(&trace)), Ok(trace));
         }
+    }
+
+    #[test]
+    fn a_checkpoint_stands_among_the_steps_and_has_a_state_of_its_own() {
+        let text =
+            "x 0: 03\ny 0: 02\nmac16 m1 vector\nvecint m1 reserved=1\ncheckpoint\ncount: 2\nx 0: 03\ny 0: 02\nz 0: 06\nmac16 m1 vector\n";
+        let trace = assemble(text).unwrap();
+        let checkpoint = trace.checkpoint().unwrap();
+        assert_eq!((checkpoint.consumed, checkpoint.state.count(), checkpoint.state.row(Register::Z(0))[0]), (2, 2, 6));
+        assert_eq!((trace.start().count(), trace.start().row(Register::Z(0))[0], trace.records().len()), (0, 0, 3));
+        assert_eq!(disassemble(&trace), text);
+        let mut whole = assemble("x: 03\ny: 02\nmac16 m1 vector\nvecint m1 reserved=1\nmac16 m1 vector\n").unwrap();
+        assert_eq!(whole.cut(2), Ok(trace));
+        // before the first step and after the last, of a state that is all 0
+        for consumed in [0, 3] {
+            whole.set_checkpoint(Checkpoint { consumed, state: State::new() }).unwrap();
+            assert_eq!(assemble(&disassemble(&whole)), Ok(whole.clone()));
+        }
+        assert_eq!(disassemble(&assemble(" checkpoint # nothing is consumed").unwrap()), "checkpoint\n");
     }
 
     #[test]
@@ -353,6 +429,15 @@ z 0x3f: 00 5	0  # a comment: with a colon
             ("x 8: 00", 1, "not \"x 8\""),
             ("z 64: 00", 1, "not \"z 64\""),
             ("x: 00\nx 0: 00", 2, "byte 0 of x 0 is given twice"),
+            ("count: 0", 1, "a run starts at count 0: a count stands after checkpoint"),
+            ("checkpoint\ncount: 1\ncount: 2", 3, "count is given twice"),
+            ("checkpoint\ncount: 0x10000000000000000", 2, "expected a number of 64 bits"),
+            ("checkpoint\ncount:", 2, "expected a number of 64 bits"),
+            ("checkpoint\nx: 00\nx: 00", 3, "byte 0 of x is given twice"),
+            ("checkpoint\nmac16 m1\nx: 00", 3, "stand before the first step, or right after checkpoint"),
+            ("checkpoint\nmac16 m1\ncheckpoint", 3, "checkpoint is given twice"),
+            ("checkpoint 2", 1, "expected checkpoint alone, after the steps that are consumed, not \"checkpoint 2\""),
+            ("checkpoint: 2", 1, "before the colon, not \"checkpoint\""),
         ] {
             let (at, said) = expected(text);
             assert!(at == line && said.contains(words), "{text:?}: line {at}: {said}");

@@ -1,8 +1,9 @@
-use crate::{Answer, Call, REGISTER_BYTES, Register, State, run};
+use crate::{Answer, Call, REGISTER_BYTES, Register, STATE_LENGTH, State, checkpoint_bytes, run};
 use std::fmt;
 
-/// The bytes of a trace file before its records: a table of 28, then the starting registers.
-const HEAD: usize = 28 + REGISTER_BYTES;
+/// The bytes of a checkpoint, the third section of a trace file: a u32, then the state.
+pub const CHECKPOINT_LENGTH: usize = size_of::<u32>() + STATE_LENGTH;
+
 const RECORD: usize = 16;
 
 /// A step as a trace file holds it: a call whose instruction and generation are bytes.
@@ -16,7 +17,16 @@ pub struct Record {
     pub operand: u64,
 }
 
-/// Starting registers and up to 2,048 records. A run starts at count 0.
+/// Where a run was stopped: what the rest of a trace goes on from.
+#[derive(Clone, Debug, PartialEq, Eq)]
+pub struct Checkpoint {
+    /// The records that were run, refused ones too; the next is the one of this place.
+    pub consumed: usize,
+    /// The state that they left, with its count. Any may stand here: a run goes on from it as it is.
+    pub state: State,
+}
+
+/// Starting registers and up to 2,048 records. A run starts at count 0; one that was stopped goes on from a [`Checkpoint`].
 ///
 /// ```
 /// use amx::{Record, State, Trace};
@@ -36,14 +46,16 @@ pub struct Record {
 pub struct Trace {
     start: State,
     records: Vec<Record>,
+    /// Has consumed no more than there are records.
+    checkpoint: Option<Checkpoint>,
 }
 
 /// Why a file is no trace. The discriminant is the refusal's number.
 #[derive(Clone, Copy, Debug, PartialEq, Eq, Hash)]
 pub enum FileRefusal {
-    /// Shorter than its table of 28 bytes.
+    /// Shorter than its table: 28 bytes, or 40 with three sections.
     TooShort = 5,
-    /// The table differs from a trace's, or the length from the table's.
+    /// The table differs from a trace's, or the length from the table's; or more records are consumed than there are.
     Table = 6,
     /// A padding byte of a record is not 0.
     Padding = 7,
@@ -52,6 +64,20 @@ pub enum FileRefusal {
 /// A trace holds no more than 2,048 records.
 #[derive(Clone, Copy, Debug, PartialEq, Eq)]
 pub struct TraceFull;
+
+/// Why a trace takes no checkpoint.
+#[derive(Clone, Copy, Debug, PartialEq, Eq)]
+pub enum NoCheckpoint {
+    /// More records are consumed than there are.
+    TooFewRecords {
+        /// The records consumed.
+        consumed: usize,
+        /// The records of the trace.
+        records: usize,
+    },
+    /// The trace that is to be cut has a checkpoint already.
+    Resumed,
+}
 
 /// A call whose instruction or generation is above 255 does not fit a record.
 #[derive(Clone, Copy, Debug, PartialEq, Eq)]
@@ -67,7 +93,7 @@ impl Trace {
     /// A trace of no records, from a state's registers: a trace holds no count.
     pub fn new(mut start: State) -> Self {
         start.set_count(0);
-        Trace { start, records: Vec::new() }
+        Trace { start, records: Vec::new(), checkpoint: None }
     }
 
     /// The starting state, whose count is 0.
@@ -78,6 +104,14 @@ impl Trace {
     /// The starting registers, to be written.
     pub fn registers_mut(&mut self) -> &mut [u8; REGISTER_BYTES] {
         self.start.registers_mut()
+    }
+
+    /// The state that a run goes on from, to be written.
+    pub(crate) fn state_mut(&mut self) -> &mut State {
+        match &mut self.checkpoint {
+            Some(checkpoint) => &mut checkpoint.state,
+            None => &mut self.start,
+        }
     }
 
     /// The records, in order.
@@ -94,7 +128,49 @@ impl Trace {
         Ok(())
     }
 
-    /// Reads a trace file: the refusals are tested in their order.
+    /// Where a run goes on from, of a trace that was stopped.
+    pub fn checkpoint(&self) -> Option<&Checkpoint> {
+        self.checkpoint.as_ref()
+    }
+
+    /// Has a run go on from here, and no more from the start or from another checkpoint.
+    pub fn set_checkpoint(&mut self, checkpoint: Checkpoint) -> Result<(), NoCheckpoint> {
+        let (consumed, records) = (checkpoint.consumed, self.records.len());
+        if consumed > records {
+            return Err(NoCheckpoint::TooFewRecords { consumed, records });
+        }
+        self.checkpoint = Some(checkpoint);
+        Ok(())
+    }
+
+    /// The rest of a trace whose run is stopped after some records: the same trace, with the checkpoint that the proved step leaves there.
+    /// The lines of the first part's steps, and then the text of the rest, are the whole trace's text.
+    ///
+    /// ```
+    /// use amx::{NoCheckpoint, Record, State, Trace};
+    /// let mut trace = Trace::new(State::new());
+    /// trace.push(Record { instruction: 14, generation: 1, operand: 1 << 63 })?;
+    /// trace.push(Record { instruction: 18, generation: 1, operand: 1 << 54 })?;
+    ///
+    /// let rest = trace.cut(1)?;
+    /// assert_eq!(trace.text(), "step 0 done 64\nstep 1 no-op 1\nsteps 2\n");
+    /// assert_eq!(rest.text(), "step 1 no-op 1\nsteps 2\n");
+    /// assert_eq!(Trace::from_bytes(&rest.to_bytes()), Ok(rest.clone()));
+    /// assert_eq!(trace.cut(3), Err(NoCheckpoint::TooFewRecords { consumed: 3, records: 2 }));
+    /// assert_eq!(rest.cut(2), Err(NoCheckpoint::Resumed));
+    /// # Ok::<(), Box<dyn std::error::Error>>(())
+    /// ```
+    pub fn cut(&self, consumed: usize) -> Result<Self, NoCheckpoint> {
+        if self.checkpoint.is_some() {
+            return Err(NoCheckpoint::Resumed);
+        }
+        let (state, _) = run_records(&self.start, self.records.iter().take(consumed));
+        let mut rest = self.clone();
+        rest.set_checkpoint(Checkpoint { consumed, state })?;
+        Ok(rest)
+    }
+
+    /// Reads a trace file, of two sections or three: the refusals are tested in their order.
     ///
     /// ```
     /// use amx::{FileRefusal, State, Trace};
@@ -102,56 +178,96 @@ impl Trace {
     /// assert_eq!(Trace::from_bytes(&file[..27]), Err(FileRefusal::TooShort));
     /// file[0] = 3;
     /// assert_eq!(Trace::from_bytes(&file), Err(FileRefusal::Table));
+    /// assert_eq!(Trace::from_bytes(&file[..39]), Err(FileRefusal::TooShort));
     /// ```
     pub fn from_bytes(file: &[u8]) -> Result<Self, FileRefusal> {
-        let (table, bodies) = file.split_at_checked(28).ok_or(FileRefusal::TooShort)?;
-        let (start, records) = bodies.split_first_chunk().ok_or(FileRefusal::Table)?;
-        let (records, rest) = records.as_chunks::<RECORD>();
-        if !rest.is_empty() || records.len() > Self::MAX_RECORDS || *table != table_of(records.len()) {
+        let sections = if file.first_chunk() == Some(&3u32.to_le_bytes()) { 3 } else { 2 };
+        let (table, bodies) = file.split_at_checked(table_length(sections)).ok_or(FileRefusal::TooShort)?;
+        let (start, bodies) = bodies.split_first_chunk().ok_or(FileRefusal::Table)?;
+        let (records, checkpoint) = match sections {
+            3 => bodies.split_last_chunk().map(|(records, checkpoint)| (records, Some(checkpoint))).ok_or(FileRefusal::Table)?,
+            _ => (bodies, None),
+        };
+        let (records, left) = records.as_chunks::<RECORD>();
+        let checkpoint = checkpoint.map(checkpoint_from);
+        let consumed = checkpoint.as_ref().map_or(0, |checkpoint| checkpoint.consumed);
+        let n = records.len();
+        if !left.is_empty() || n > Self::MAX_RECORDS || table != table_of(n, sections) || consumed > n {
             return Err(FileRefusal::Table);
         }
         let records = records.iter().map(record_from).collect::<Option<_>>().ok_or(FileRefusal::Padding)?;
-        Ok(Trace { start: State::from_registers(*start), records })
+        Ok(Trace { start: State::from_registers(*start), records, checkpoint })
     }
 
-    /// The trace file.
+    /// The trace file: of three sections where there is a checkpoint, else of two.
     pub fn to_bytes(&self) -> Vec<u8> {
-        let mut file = Vec::with_capacity(HEAD + RECORD * self.records.len());
-        file.extend(table_of(self.records.len()));
+        let mut file = table_of(self.records.len(), if self.checkpoint.is_some() { 3 } else { 2 });
         file.extend(self.start.registers());
         for record in &self.records {
             file.extend([record.instruction, record.generation, 0, 0, 0, 0, 0, 0]);
             file.extend(record.operand.to_le_bytes());
         }
+        if let Some(Checkpoint { consumed, state }) = &self.checkpoint {
+            let mut section = [0; CHECKPOINT_LENGTH];
+            let written = checkpoint_bytes(state.bytes(), *consumed as u64, &mut section);
+            assert_eq!(written, CHECKPOINT_LENGTH, "libamx.a wrote no checkpoint, though there is room and few steps are consumed");
+            file.extend(section);
+        }
         file
     }
 
-    /// Runs the records in turn from the starting state, each with the serial then due: the end state, and the answer of each.
+    /// Runs the records that are not consumed in turn, from the checkpoint or else from the starting state, each with the serial then due:
+    /// the end state, and the answer of each.
     pub fn run(&self) -> (State, Vec<Answer>) {
-        let mut state = self.start.clone();
-        let calls: Vec<Call> = self.records.iter().map(|&record| record.into()).collect();
-        let answers = run(&mut state, &calls);
-        (state, answers)
+        match &self.checkpoint {
+            Some(checkpoint) => run_records(&checkpoint.state, self.records.iter().skip(checkpoint.consumed)),
+            None => run_records(&self.start, self.records.iter()),
+        }
     }
 
-    /// The text of a run: a line for each step, one for each row of Z that differs from the start, and the number of steps.
+    /// The text of a run: a line for each step that it takes, one for each row of Z that differs from the start (not from the checkpoint),
+    /// and the number of steps, consumed ones too.
     pub fn text(&self) -> String {
         let (state, answers) = self.run();
-        let mut text: String = answers.iter().enumerate().map(|(place, answer)| format!("step {place} {answer}\n")).collect();
+        let consumed = self.records.len() - answers.len();
+        let mut text: String = (consumed..).zip(&answers).map(|(place, answer)| format!("step {place} {answer}\n")).collect();
         for row in (0..64).filter(|&row| state.row(Register::Z(row)) != self.start.row(Register::Z(row))) {
             let digits: String = state.row(Register::Z(row)).iter().map(|byte| format!("{byte:02x}")).collect();
             text += &format!("z {row} {digits}\n");
         }
-        text + &format!("steps {}\n", answers.len())
+        text + &format!("steps {}\n", self.records.len())
     }
 }
 
+/// Runs records in turn from a state, each with the serial then due.
+fn run_records<'a>(state: &State, records: impl Iterator<Item = &'a Record>) -> (State, Vec<Answer>) {
+    let mut state = state.clone();
+    let calls: Vec<Call> = records.map(|&record| record.into()).collect();
+    let answers = run(&mut state, &calls);
+    (state, answers)
+}
+
+fn table_length(sections: usize) -> usize {
+    4 + 12 * sections
+}
+
 /// The table of a trace of n records: the count of sections, then kind, zero, offset and length of each.
-fn table_of(n: usize) -> [u8; 28] {
-    let words = [2, 1, 28, REGISTER_BYTES as u32, 2, HEAD as u32, (RECORD * n) as u32];
-    let mut table = [0; 28];
-    table.chunks_mut(4).zip(words).for_each(|(bytes, word)| bytes.copy_from_slice(&word.to_le_bytes()));
-    table
+fn table_of(n: usize, sections: usize) -> Vec<u8> {
+    let lengths = [REGISTER_BYTES, RECORD * n, CHECKPOINT_LENGTH];
+    let mut words = vec![sections];
+    let mut offset = table_length(sections);
+    for (kind, length) in (1..).zip(lengths).take(sections) {
+        words.extend([kind, offset, length]);
+        offset += length;
+    }
+    words.into_iter().flat_map(|word| (word as u32).to_le_bytes()).collect()
+}
+
+/// A checkpoint, whatever it has consumed.
+fn checkpoint_from(bytes: &[u8; CHECKPOINT_LENGTH]) -> Checkpoint {
+    let (consumed, state) = bytes.split_first_chunk().expect("what is consumed comes first");
+    let state = state.try_into().expect("the state is the rest");
+    Checkpoint { consumed: u32::from_le_bytes(*consumed) as usize, state: State::from_bytes(state) }
 }
 
 /// A record whose padding is 0.
@@ -184,8 +300,8 @@ impl fmt::Display for FileRefusal {
             return Ok(());
         }
         f.write_str(match self {
-            FileRefusal::TooShort => ": a trace has at least 28 bytes",
-            FileRefusal::Table => ": the table is not that of a trace, or the length is not the table's",
+            FileRefusal::TooShort => ": a trace has at least 28 bytes, or 40 where it has three sections",
+            FileRefusal::Table => ": table or length are not those of a trace, or more steps are consumed than there are",
             FileRefusal::Padding => ": a record's padding is not 0",
         })
     }
@@ -197,6 +313,15 @@ impl fmt::Display for TraceFull {
     }
 }
 
+impl fmt::Display for NoCheckpoint {
+    fn fmt(&self, f: &mut fmt::Formatter) -> fmt::Result {
+        match self {
+            NoCheckpoint::TooFewRecords { consumed, records } => write!(f, "{consumed} steps cannot be consumed, the trace has {records}"),
+            NoCheckpoint::Resumed => f.write_str("the trace has a checkpoint already"),
+        }
+    }
+}
+
 impl fmt::Display for NoRecord {
     fn fmt(&self, f: &mut fmt::Formatter) -> fmt::Result {
         write!(f, "instruction and generation of a record are 0 to 255, not {} and {}", self.0.instruction, self.0.generation)
@@ -205,16 +330,21 @@ impl fmt::Display for NoRecord {
 
 impl std::error::Error for FileRefusal {}
 impl std::error::Error for TraceFull {}
+impl std::error::Error for NoCheckpoint {}
 impl std::error::Error for NoRecord {}
 
 #[cfg(test)]
 mod tests {
     use super::*;
 
-    fn of(n: usize) -> Vec<u8> {
+    fn trace(n: usize) -> Trace {
         let mut trace = Trace::new(State::new());
         (0..n).for_each(|n| trace.push(Record { instruction: 14, generation: 1, operand: n as u64 }).unwrap());
-        trace.to_bytes()
+        trace
+    }
+
+    fn of(n: usize) -> Vec<u8> {
+        trace(n).to_bytes()
     }
 
     #[test]
@@ -246,6 +376,67 @@ mod tests {
             file[at] ^= 1;
             assert_eq!(Trace::from_bytes(&file), Err(FileRefusal::Table), "byte {at}");
         }
+    }
+
+    #[test]
+    fn a_checkpoint_follows_the_records() {
+        for (n, consumed) in [(0, 0), (3, 0), (3, 2), (3, 3), (2_048, 0x702), (2_048, 2_048)] {
+            let mut state = State::from_registers(std::array::from_fn(|at| (at % 249) as u8));
+            state.set_count(u64::MAX - 1);
+            let mut trace = trace(n);
+            trace.set_checkpoint(Checkpoint { consumed, state: state.clone() }).unwrap();
+            let file = trace.to_bytes();
+            assert_eq!((file.len(), &file[40..5_160]), (10_292 + 16 * n, &of(n)[28..5_148]));
+            let (records, checkpoint) = file[5_160..].split_at(16 * n);
+            assert_eq!(records, &of(n)[5_148..]);
+            assert_eq!(checkpoint[..4], [consumed as u8, (consumed >> 8) as u8, 0, 0]);
+            assert_eq!(checkpoint[4..], state.bytes()[..]);
+            assert_eq!(Trace::from_bytes(&file), Ok(trace));
+        }
+    }
+
+    #[test]
+    fn no_more_is_consumed_than_there_is() {
+        let mut trace = trace(3);
+        let too_many = Err(NoCheckpoint::TooFewRecords { consumed: 4, records: 3 });
+        assert_eq!(trace.set_checkpoint(Checkpoint { consumed: 4, state: State::new() }), too_many);
+        assert_eq!((trace.checkpoint(), trace.cut(4).map(drop), trace.cut(usize::MAX).is_err()), (None, too_many, true));
+        // a checkpoint takes the place of another
+        for consumed in [3, 1] {
+            trace.set_checkpoint(Checkpoint { consumed, state: State::new() }).unwrap();
+            assert_eq!(trace.checkpoint().map(|checkpoint| checkpoint.consumed), Some(consumed));
+        }
+        assert_eq!(trace.cut(2), Err(NoCheckpoint::Resumed));
+    }
+
+    #[test]
+    fn refusals_of_three_sections_come_in_their_order() {
+        let file = trace(2).cut(1).unwrap().to_bytes();
+        let consumed = 5_160 + 32;
+        let damaged = |damage: &[(usize, u8)]| {
+            let mut file = file.clone();
+            damage.iter().for_each(|&(at, byte)| file[at] ^= byte);
+            Trace::from_bytes(&file).map(drop)
+        };
+        // padding of the record that is consumed and of the one that is not
+        for at in [5_160 + 2, 5_160 + 16 + 7] {
+            assert_eq!(damaged(&[(at, 1)]), Err(FileRefusal::Padding));
+            assert_eq!(damaged(&[(at, 1), (consumed, 1 ^ 3)]), Err(FileRefusal::Table));
+        }
+        for byte in 0..4 {
+            assert_eq!(damaged(&[(consumed + byte, 0x80)]), Err(FileRefusal::Table));
+        }
+        assert_eq!((damaged(&[(consumed, 1)]), damaged(&[(consumed, 1 ^ 2)])), (Ok(()), Ok(())));
+        for at in 0..40 {
+            assert_eq!(damaged(&[(at, 1)]), Err(FileRefusal::Table), "byte {at}");
+        }
+        for length in 0..file.len() {
+            let refusal = if length < 40 { FileRefusal::TooShort } else { FileRefusal::Table };
+            assert_eq!(Trace::from_bytes(&file[..length]), Err(refusal), "{length} bytes");
+        }
+        assert_eq!(Trace::from_bytes(&[&file[..], &[0]].concat()), Err(FileRefusal::Table));
+        // another count of sections in so few bytes
+        assert_eq!(Trace::from_bytes(&[&[4], &file[1..39]].concat()), Err(FileRefusal::Table));
     }
 
     #[test]

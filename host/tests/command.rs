@@ -1,5 +1,5 @@
 //! The `amx` program from outside: its texts, its files, its errors and their statuses.
-use amx::{Call, Record, State, Trace, random::Random, reference, text};
+use amx::{Checkpoint, Record, State, Trace, random::Random, reference, text};
 use std::{
     fs,
     path::{Path, PathBuf},
@@ -82,11 +82,12 @@ fn a_text_is_assembled_run_and_taken_apart() {
 fn any_trace_is_taken_apart_and_put_together_again() {
     let room = Room::new("any");
     let mut random = Random::new(5);
-    for records in [0, 1, 100, 2_048] {
-        let mut trace = Trace::new(random.state());
-        for _ in 0..records {
-            let Call { instruction, generation, operand } = random.call();
-            trace.push(Record { instruction: instruction as u8, generation: generation as u8, operand }).unwrap();
+    for (records, checkpoint) in [0, 1, 100, 2_048].into_iter().flat_map(|records| [false, true].map(|checkpoint| (records, checkpoint))) {
+        let mut trace = random.trace(records);
+        if checkpoint {
+            let mut state = random.state();
+            state.set_count(random.bits());
+            trace.set_checkpoint(Checkpoint { consumed: random.below(records as u64 + 1) as usize, state }).unwrap();
         }
         let file = room.write("one", trace.to_bytes());
         let text = room.write("text", said(&["dis", name(&file)]));
@@ -94,6 +95,81 @@ fn any_trace_is_taken_apart_and_put_together_again() {
         said(&["asm", "-o", name(&again), name(&text)]);
         assert!(fs::read(&file).unwrap() == fs::read(&again).unwrap());
         assert!(said(&["run", name(&file)]) == reference::trace(&trace.to_bytes()));
+        assert!(said(&["run", name(&text)]) == reference::trace(&trace.to_bytes()));
+    }
+}
+
+#[test]
+fn a_trace_is_cut_and_goes_on() {
+    let room = Room::new("cut");
+    let text = room.write("sample.txt", SAMPLE);
+    let (trace, rest) = (room.0.join("sample.amx"), room.0.join("rest.amx"));
+    said(&["asm", name(&text), "-o", name(&trace)]);
+    // a trace or its text, options in any order
+    for arguments in [
+        ["cut", name(&trace), "--after", "1", "-o", name(&rest)],
+        ["cut", name(&trace), "-o", name(&rest), "--after", "0x1"],
+        ["cut", "--after", "1", "-o", name(&rest), name(&text)],
+        ["cut", "-o", name(&rest), "--after", "1", name(&text)],
+    ] {
+        assert_eq!(said(&arguments), "");
+        assert_eq!(reference::cut(&fs::read(&trace).unwrap(), 1), fs::read(&rest).ok());
+        assert_eq!(said(&["run", name(&rest)]), sample_text()["step 0 done 64\n".len()..]);
+        fs::remove_file(&rest).unwrap();
+    }
+    said(&["cut", name(&trace), "--after", "1", "-o", name(&rest)]);
+    let apart = "x 0: 03\ny 0: 02\nmac16 m1 vector\ncheckpoint\ncount: 1\nx 0: 03\ny 0: 02\nz 0: 06\nvecint m1 reserved=1\n";
+    assert_eq!(said(&["dis", name(&rest)]), apart);
+    // onto itself
+    said(&["cut", name(&trace), "--after", "2", "-o", name(&trace)]);
+    assert_eq!(said(&["run", name(&trace)]), sample_text()["step 0 done 64\nstep 1 no-op 1\n".len()..]);
+    assert_eq!(room.names(), ["rest.amx", "sample.amx", "sample.txt"]);
+}
+
+#[test]
+fn any_trace_is_cut_at_any_place() {
+    let room = Room::new("anywhere");
+    let mut random = Random::new(17);
+    for records in [0, 5, 40, 2_048] {
+        let trace = random.trace(records);
+        let (file, rest) = (room.write("whole", trace.to_bytes()), room.0.join("rest"));
+        let whole = said(&["run", name(&file)]);
+        for after in [0, 1, records / 2, records.saturating_sub(1), records].into_iter().filter(|&after| after <= records) {
+            said(&["cut", name(&file), "--after", &after.to_string(), "-o", name(&rest)]);
+            assert_eq!(reference::cut(&trace.to_bytes(), after), fs::read(&rest).ok());
+            let first: String = whole.split_inclusive('\n').take(after).collect();
+            assert!(first + &said(&["run", name(&rest)]) == whole, "cut after {after} of {records}");
+        }
+    }
+}
+
+#[test]
+fn a_cut_that_cannot_be_made_writes_no_file() {
+    let room = Room::new("no-cut");
+    let text = room.write("sample.txt", SAMPLE);
+    let (trace, rest) = (room.0.join("sample.amx"), room.0.join("rest.amx"));
+    said(&["asm", name(&text), "-o", name(&trace)]);
+    let damaged = room.write("damaged", &fs::read(&trace).unwrap()[..5_000]);
+    let cut = |file: &Path, after: &str, words: &str| refused(&["cut", name(file), "--after", after, "-o", name(&rest)], words);
+    cut(&trace, "3", "sample.amx: 3 steps cannot be consumed, the trace has 2");
+    cut(&text, "18446744073709551615", "18446744073709551615 steps cannot be consumed, the trace has 2");
+    for after in ["", "one", "-1", "1.5", "18446744073709551616"] {
+        cut(&trace, after, &format!("--after: expected a number of 64 bits (12, 0x1f or 0b101), not {after:?}"));
+    }
+    cut(&damaged, "0", "damaged: file refused 6: table or length are not those of a trace");
+    cut(&room.0.join("absent"), "0", "absent: ");
+    cut(&room.write("wrong.txt", "mac16 m3"), "0", "wrong.txt, line 1: expected m1 or m2");
+    assert_eq!(room.names(), ["damaged", "sample.amx", "sample.txt", "wrong.txt"]);
+    said(&["cut", name(&trace), "--after", "1", "-o", name(&rest)]);
+    let before = fs::read(&rest).unwrap();
+    cut(&rest, "1", "rest.amx: the trace has a checkpoint already");
+    cut(&trace, "3", "3 steps cannot be consumed");
+    assert_eq!(fs::read(&rest).unwrap(), before);
+    refused(&["cut", name(&trace), "--after", "1", "-o", name(&room.0.join("none/rest"))], "none/rest: ");
+    for words in
+        [&["cut"][..], &["cut", "a"], &["cut", "a", "-o", "b"], &["cut", "a", "--after", "1"], &["cut", "a", "b", "--after", "1", "-o"]]
+    {
+        refused(words, "expected cut FILE --after K -o TRACE, FILE a trace or a text");
     }
 }
 
@@ -140,17 +216,22 @@ fn damaged_traces_are_refused_by_number() {
     let room = Room::new("damaged");
     let mut trace = Trace::new(State::new());
     trace.push(Record { instruction: 14, generation: 1, operand: 0 }).unwrap();
-    let sound = trace.to_bytes();
-    let damaged = |at: usize| {
-        let mut bytes = sound.clone();
-        bytes[at] ^= 1;
+    let (sound, cut) = (trace.to_bytes(), trace.cut(1).unwrap().to_bytes());
+    let damaged = |sound: &[u8], at: usize| {
+        let mut bytes = sound.to_vec();
+        bytes[at] ^= 3;
         bytes
     };
     for (bytes, line) in [
         (sound[..27].to_vec(), "file refused 5"),
-        (damaged(5), "file refused 6"),
+        (damaged(&sound, 5), "file refused 6"),
         (sound[..5_160].to_vec(), "file refused 6"),
-        (damaged(5_150), "file refused 7"),
+        (damaged(&sound, 5_150), "file refused 7"),
+        (cut[..39].to_vec(), "file refused 5"),
+        (damaged(&cut, 30), "file refused 6"),
+        // 2 consumed of 1
+        (damaged(&cut, 5_176), "file refused 6"),
+        (damaged(&cut, 5_162), "file refused 7"),
     ] {
         let file = room.write("trace", bytes);
         refused(&["dis", name(&file)], line);
@@ -288,7 +369,7 @@ fn lanes_are_those_that_the_step_counts() {
 #[test]
 fn help_says_all_of_it_and_wrong_words_are_refused() {
     let help = said(&["--help"]);
-    for word in ["amx asm", "amx dis", "amx run", "amx explain", "amx lanes"] {
+    for word in ["amx asm", "amx dis", "amx run", "amx cut", "amx explain", "amx lanes"] {
         assert!(help.contains(word));
     }
     // every field by its name
@@ -299,8 +380,8 @@ fn help_says_all_of_it_and_wrong_words_are_refused() {
             }
         }
     }
-    refused(&[], "expected asm, dis, run, explain or lanes");
-    refused(&["assemble"], "expected asm, dis, run, explain or lanes, not \"assemble\"");
+    refused(&[], "expected asm, dis, run, cut, explain or lanes");
+    refused(&["assemble"], "expected asm, dis, run, cut, explain or lanes, not \"assemble\"");
     refused(&["asm", "text"], "expected asm TEXT -o TRACE");
     refused(&["dis"], "expected dis TRACE");
     refused(&["run"], "expected run FILE");

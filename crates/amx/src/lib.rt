@@ -10,6 +10,7 @@ ghost use Rattle.isa.specs.Call as Calls;
 ghost use Rattle.isa.specs.Answers.{answerOf, hostNumber, normalNumber};
 ghost use Rattle.isa.specs.Step.{stepped};
 ghost use Rattle.isa.specs.Normal.{normalOf, handedBack};
+ghost use Rattle.file.specs.File.{checkpointIn, storedBytes};
 
 // The serial due: the count of steps taken.
 pub fn due(state: &[u8]) -> u64
@@ -118,4 +119,13 @@ pub extern "C" fn amx_normal_operand(instruction: u64, generation: u64, operand:
         isa::Normal::NoOp(_) => operand,
         isa::Normal::Refused(_) => operand,
     }
+}
+
+// The third section of a trace that was stopped after so many steps, and its length; 0 where nothing is stored.
+#[no_mangle]
+pub extern "C" fn amx_checkpoint(state: &[u8], consumed: u64, out: &mut [u8]) -> u64
+    ensures { λ r. ⌜ (now (out .exit) ≡ checkpointIn (now (out .entry)) consumed (now (state .entry)))
+        × (r ≡ storedBytes (now (out .entry)) consumed (now (state .entry))) ⌝ }
+{
+    file::put_checkpoint(out, consumed, state) as u64
 }

@@ -4,9 +4,9 @@ ghost use mathlib.Core.Path.{_≡_};
 ghost use Prim.Native.Nat.{_<_};
 ghost use lib.ListN.{length, take};
 ghost use Rattle.io.specs.Counts.{Counts};
-ghost use Rattle.file.specs.File.{stepAt, mostSteps};
 ghost use Rattle.trace.specs.Trace.{textOf};
 ghost use Rattle.disk.specs.Got.{Within};
+ghost use Rattle.disk.specs.Longer.{longest};
 use libc::STDOUT_FILENO;
 
 // What reading a file answers: how many bytes it put at the start of the buffer, or that it failed.
@@ -47,9 +47,9 @@ fn fill(fd: i32, buffer: &mut [u8]) -> Got
 }
 
 // The file's bytes, as many as the buffer holds. Those are more than the longest accepted file has: what is read of a longer one is refused by its length,
-// as the file is (specs/Cut). A file that cannot be read is named on standard error.
+// as the file is (specs/Longer). A file that cannot be read is named on standard error.
 fn read_file(path: &[u8], buffer: &mut [u8]) -> Got
-    requires { ⌜ stepAt mostSteps < length (now buffer) ⌝ }
+    requires { ⌜ longest < length (now buffer) ⌝ }
     ensures { λ r. ⌜ Within r (length (now (buffer .exit))) ⌝ }
 {
     let fd = os::open_read(path);
@@ -97,7 +97,7 @@ fn print_text(file: &[u8]) {
 
 // Writes the text of the file that the path names to standard output, or says on standard error why it cannot be read.
 pub fn print_file(path: &[u8]) {
-    let mut buffer = [0u8; 37_917];
+    let mut buffer = [0u8; 43_061];
     let got = read_file(path, &mut buffer);
     if let Got::Bytes(n) = got {
         print_text(&buffer[..n]);

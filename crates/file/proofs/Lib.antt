@@ -1,4 +1,6 @@
+pub mod Parts
 pub mod Contents
 pub mod Paddings
-pub mod Accepted
 pub mod Records
+pub mod Accepted
+pub mod States

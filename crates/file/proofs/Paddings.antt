@@ -66,49 +66,49 @@ module _ (f : ℕ → ℕ) where
 
 -- ---- one step's
 
-module _ (file : List ℕ) (i : ℕ) where
+module _ (steps : List ℕ) (i : ℕ) where
   abbrev pair : ℕ
-  pair = number 2 (byteAt file) (stepAt i + 2)
+  pair = number 2 (byteAt steps) (stepAt i + 2)
 
   abbrev quartet : ℕ
-  quartet = number 4 (byteAt file) (stepAt i + 2 + 2)
+  quartet = number 4 (byteAt steps) (stepAt i + 2 + 2)
 
-  parts : number 6 (byteAt file) (stepAt i + 2) ≡ pair + 65536 * quartet
-  parts = number-add 2 4 (byteAt file) (stepAt i + 2)
+  parts : number 6 (byteAt steps) (stepAt i + 2) ≡ pair + 65536 * quartet
+  parts = number-add 2 4 (byteAt steps) (stepAt i + 2)
 
-  pub pair-set : (n : ℕ) → n ≡ pair → (n ≡ 0 → ⊥) → false ≡ paddingClear file i
+  pub pair-set : (n : ℕ) → n ≡ pair → (n ≡ 0 → ⊥) → false ≡ paddingClear steps i
   unfolding paddingClear
-  pair-set n e f = sym (bytes-not-clear (byteAt file) 6 (stepAt i + 2) (λ g. f (omega (arith, e, g, parts))))
+  pair-set n e f = sym (bytes-not-clear (byteAt steps) 6 (stepAt i + 2) (λ g. f (omega (arith, e, g, parts))))
 
-  pub by-quartet : (n m : ℕ) → n ≡ pair → n ≡ 0 → m ≡ quartet → eqb m 0 ≡ paddingClear file i
+  pub by-quartet : (n m : ℕ) → n ≡ pair → n ≡ 0 → m ≡ quartet → eqb m 0 ≡ paddingClear steps i
   unfolding paddingClear
   by-quartet n m e z f =
-      two (eqb m 0) (eqb m 0 ≡ clear (byteAt file) 6 (stepAt i + 2))
+      two (eqb m 0) (eqb m 0 ≡ clear (byteAt steps) 6 (stepAt i + 2))
       (λ t.
       let none : m ≡ 0 = eqb-true m 0 t in
-      t ∙ sym (bytes-clear (byteAt file) 6 (stepAt i + 2) (omega (arith, e, z, f, none, parts))))
+      t ∙ sym (bytes-clear (byteAt steps) 6 (stepAt i + 2) (omega (arith, e, z, f, none, parts))))
       (λ t.
-      t ∙ sym (bytes-not-clear (byteAt file) 6 (stepAt i + 2) (λ g. eqb-false m 0 t (omega (arith, f, g, parts)))))
+      t ∙ sym (bytes-not-clear (byteAt steps) 6 (stepAt i + 2) (λ g. eqb-false m 0 t (omega (arith, f, g, parts)))))
 
 -- ---- all steps'
 
-module _ (file : List ℕ) where
-  pub paddings-none : paddingsClear file 0 ≡ true
+module _ (steps : List ℕ) where
+  pub paddings-none : paddingsClear steps 0 ≡ true
   unfolding paddingsClear
   paddings-none = refl
 
-  pub paddings-more : (i : ℕ) → paddingsClear file i ≡ true → paddingClear file i ≡ true → paddingsClear file (i + 1) ≡ true
+  pub paddings-more : (i : ℕ) → paddingsClear steps i ≡ true → paddingClear steps i ≡ true → paddingsClear steps (i + 1) ≡ true
   unfolding paddingsClear
   paddings-more i e f =
       let next : i + 1 ≡ suc i = omega arith in
-      ap (all (paddingClear file)) next ∙ (λ t. e t && f t)
+      ap (all (paddingClear steps)) next ∙ (λ t. e t && f t)
 
-  pub paddings-set : (n i : ℕ) → i < n → paddingClear file i ≡ false → false ≡ paddingsClear file n
+  pub paddings-set : (n i : ℕ) → i < n → paddingClear steps i ≡ false → false ≡ paddingsClear steps n
   unfolding paddingsClear
   paddings-set n i h f =
-      sym (is-false (all (paddingClear file) n) (λ t. true-false (sym (all-at (paddingClear file) n t i h) ∙ f)))
+      sym (is-false (all (paddingClear steps) n) (λ t. true-false (sym (all-at (paddingClear steps) n t i h) ∙ f)))
 
-  pub paddings-all : (n i : ℕ) → paddingsClear file i ≡ true → i ≤ n → n ≤ i → true ≡ paddingsClear file n
+  pub paddings-all : (n i : ℕ) → paddingsClear steps i ≡ true → i ≤ n → n ≤ i → true ≡ paddingsClear steps n
   paddings-all n i e h l =
       let same : n ≡ i = omega arith in
-      sym (ap (paddingsClear file) same ∙ e)
+      sym (ap (paddingsClear steps) same ∙ e)

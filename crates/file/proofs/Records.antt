@@ -1,25 +1,23 @@
--- Records of a file: their bytes as numbers, the cursor, the list of calls, and the starting state.
+-- Records in the bytes of steps: their bytes as numbers, the cursor, the list of calls, and the calls of a part.
 -- Assumes nothing.
 use mathlib.Core.Path.{_≡_, sym, ap, _∙_}
 use mathlib.Core.Bool.{true, false, _&&_}
 use mathlib.Core.List.{List}
-use Prim.Native.Nat.{ℕ, _+_, _≤_, _<_}
-use native.Mathlib.Nat.{zero-add}
+use mathlib.Core.Logic.{⊎-elim}
+use Prim.Native.Nat.{ℕ, _+_, _-_, _*_, _/_, _≤_, _<_}
 use native.Mathlib.Omega.{arith}
-use borrow.Author.Tests.{lt-ltb, le-ltb, eq-eqb, ne-eqb, le-leb, lt-leb}
-use lib.Dec.{eqb, leb, ltb}
-use lib.ListN.{length, getD}
-use lib.Seq.{sets}
-use Rattle.number.specs.Bytes.{byteAt, bytesOf}
-use Rattle.number.proofs.Tests.{pick-true, pick-false}
-use Rattle.number.proofs.Bytes.{length-table, getD-table}
-use Rattle.number.proofs.Fill.{Filled, fill-front}
-use Rattle.isa.specs.State.{registerBytes, stateLength, registersOf, countOf, stateOf}
+use borrow.Author.Tests.{lt-ltb, le-ltb}
+use lib.Dec.{ltb}
+use lib.ListN.{length, drop}
+use lib.Seq.{drop-at}
+use Rattle.number.specs.Bytes.{byteAt, number, table}
+use Rattle.number.proofs.Tests.{pick-true, pick-false, lt-or-le}
+use Rattle.number.proofs.Bytes.{length-table, table-add, table-same, number-moved}
 use Rattle.isa.specs.Call.{Call, call}
-use Rattle.isa.proofs.Registers.{length-state, byte-state, count-state, count-stored}
 use Rattle.file.specs.declared.Record.{Record}
 use Rattle.file.specs.declared.Read.the-variants as read
-use Rattle.file.specs.File.{stepsBase, mostSteps, callAt, calls, registersIn, startOf, cursor, recordOf, readAs, loadedFrom}
+use Rattle.file.specs.File.{bytesFrom, mostSteps, recordsIn, callAt, calls, cursor, recordOf, readAs}
+use Rattle.file.proofs.Parts.{byte-from}
 
 -- ---- a call as code holds it
 
@@ -28,71 +26,82 @@ record-same a b d = λ t. recordOf (call (a t) (b t) (d t))
 
 -- ---- the cursor
 
-module _ (file : List ℕ) (i n : ℕ) where
-  pub read-end : n ≤ i → read.End ≡ readAs file (cursor i n)
+module _ (steps : List ℕ) (i n : ℕ) where
+  pub read-end : n ≤ i → read.End ≡ readAs steps (cursor i n)
   read-end h =
       let past : ltb i n && ltb i mostSteps ≡ false = (λ t. le-ltb i n h t && ltb i mostSteps) in
       sym (pick-false _ _ past)
 
-  pub read-past : i < n → mostSteps ≤ i → read.End ≡ readAs file (cursor i n)
+  pub read-past : i < n → mostSteps ≤ i → read.End ≡ readAs steps (cursor i n)
   read-past h l =
       let past : ltb i n && ltb i mostSteps ≡ false = (λ t. lt-ltb i n h t && le-ltb i mostSteps l t) in
       sym (pick-false _ _ past)
 
   -- a cursor at step i gives the call of step i, and the cursor at the next one
-  pub read-step : i < n → i < mostSteps → read.Record (recordOf (callAt file i)) (cursor (i + 1) n) ≡ readAs file (cursor i n)
+  pub read-step : i < n → i < mostSteps → read.Record (recordOf (callAt steps i)) (cursor (i + 1) n) ≡ readAs steps (cursor i n)
   read-step h l =
       let there : ltb i n && ltb i mostSteps ≡ true = (λ t. lt-ltb i n h t && lt-ltb i mostSteps l t) in
       sym (pick-true _ _ there)
 
--- ---- the calls, and the starting state
+-- ---- how many there are
 
-module _ (file : List ℕ) where
-  pub length-calls : (n : ℕ) → length (calls file n) ≡ n
-  length-calls n = length-table (callAt file) 0 n
+module _ (steps : List ℕ) where
+  pub records-few : length steps / 16 < mostSteps → length steps / 16 ≡ recordsIn steps
+  records-few h = sym (pick-true _ _ (lt-ltb (length steps / 16) mostSteps h))
 
-  pub calls-at : (d : Call) (n i : ℕ) → i < n → getD (calls file n) i d ≡ callAt file i
-  calls-at d n i h = getD-table (callAt file) d 0 n i h ∙ ap (callAt file) (zero-add i)
+  pub records-most : mostSteps ≤ length steps / 16 → mostSteps ≡ recordsIn steps
+  records-most h = sym (pick-false _ _ (le-ltb (length steps / 16) mostSteps h))
 
-  length-in : length (registersIn file) ≡ registerBytes
-  length-in = length-table (λ k. byteAt file (28 + k)) 0 registerBytes
+  pub records-exact : (n : ℕ) → length steps ≡ 16 * n → n ≤ mostSteps → recordsIn steps ≡ n
+  records-exact n e h =
+      let whole : length steps / 16 ≡ n = omega (arith, e) in
+      ⊎-elim
+      (λ (l : length steps / 16 < mostSteps). sym (records-few l) ∙ whole)
+      (λ (l : mostSteps ≤ length steps / 16). sym (records-most l) ∙ omega (arith, whole, l, h))
+      (lt-or-le (length steps / 16) mostSteps)
 
-  pub length-start : length (startOf file) ≡ stateLength
-  length-start = length-state (registersIn file) 0 length-in
+  pub length-calls : (n : ℕ) → length (calls steps n) ≡ n
+  length-calls n = length-table (callAt steps) 0 n
 
-  pub count-start : countOf (startOf file) ≡ 0
-  count-start = count-state (registersIn file) 0 length-in
+-- ---- the calls of a part
 
-  pub start-byte : (p : ℕ) → p < registerBytes → byteAt (startOf file) p ≡ byteAt file (28 + p)
-  start-byte p h =
-      byte-state (registersIn file) 0 length-in p h
-      ∙ getD-table (λ k. byteAt file (28 + k)) 0 0 registerBytes p h
-      ∙ ap (λ (k : ℕ). byteAt file (28 + k)) (zero-add p)
+module _ (s : List ℕ) where
+  -- the call whose bytes begin at q
+  abbrev standing : ℕ → Call
+  standing q = call (byteAt s q) (byteAt s (q + 1)) (number 8 (byteAt s) (q + 8))
 
--- ---- loading, by the branches of the code
+  call-from : (p n i : ℕ) → i < n → callAt (bytesFrom s p (16 * n)) i ≡ standing (p + 16 * i)
+  call-from p n i h = λ t. call (here t) (next t) (operand t)
+    where
+      part : List ℕ
+      part = bytesFrom s p (16 * n)
 
-module _ (file state : List ℕ) where
-  pub load-length : (length state ≡ stateLength → ⊥) → state ≡ loadedFrom file state
-  load-length f =
-      let no : eqb (length state) stateLength && leb stepsBase (length file) ≡ false =
-      (λ t. ne-eqb (length state) stateLength f t && leb stepsBase (length file))
-      in sym (pick-false _ _ no)
+      there : (j k : ℕ) → 16 * i + j + k < 16 * n → byteAt part (16 * i + j + k) ≡ byteAt s (p + 16 * i + j + k)
+      there j k l = byte-from s p (16 * n) (16 * i + j + k) l ∙ ap (byteAt s) (omega arith)
 
-  pub load-short : length state ≡ stateLength → length file < stepsBase → state ≡ loadedFrom file state
-  load-short e h =
-      let no : eqb (length state) stateLength && leb stepsBase (length file) ≡ false =
-      (λ t. eq-eqb (length state) stateLength e t && lt-leb stepsBase (length file) h t)
-      in sym (pick-false _ _ no)
+      here : byteAt part (16 * i) ≡ byteAt s (p + 16 * i)
+      here = byte-from s p (16 * n) (16 * i) (omega (arith, h))
 
-  pub load-all : length state ≡ stateLength → stepsBase ≤ length file → startOf file ≡ loadedFrom file state
-  load-all e h =
-      let yes : eqb (length state) stateLength && leb stepsBase (length file) ≡ true =
-      (λ t. eq-eqb (length state) stateLength e t && le-leb stepsBase (length file) h t)
-      in sym (pick-true _ _ yes)
+      next : byteAt part (16 * i + 1) ≡ byteAt s (p + 16 * i + 1)
+      next = byte-from s p (16 * n) (16 * i + 1) (omega (arith, h)) ∙ ap (byteAt s) (omega arith)
 
-  -- a state whose registers were filled, and then a count of 0
-  pub start-stored : length state ≡ stateLength → (i : ℕ) → registerBytes ≤ i → Filled 0 (λ k. byteAt file (28 + k)) state i
-      → sets state 5120 (bytesOf 8 0) ≡ startOf file
-  start-stored size i past fill =
-      let front : registersOf state ≡ registersIn file = fill-front 0 (λ k. byteAt file (28 + k)) 5120 i state (omega (arith, size)) past fill in
-      count-stored state 0 size ∙ ap (λ (r : List ℕ). stateOf r 0) front
+      operand : number 8 (byteAt part) (16 * i + 8) ≡ number 8 (byteAt s) (p + 16 * i + 8)
+      operand = number-moved 8 (byteAt part) (byteAt s) (16 * i + 8) (p + 16 * i + 8) (λ k l. there 8 k (omega (arith, h, l)))
+
+  -- those from step k on are the calls of the bytes from there on
+  pub calls-rest : (p n k : ℕ) → k ≤ n → calls (bytesFrom s (p + 16 * k) (16 * (n - k))) (n - k) ≡ drop k (calls (bytesFrom s p (16 * n)) n)
+  calls-rest p n k h =
+      table-same (callAt (bytesFrom s (p + 16 * k) (16 * m))) (λ i. callAt all (k + i)) m moved
+      ∙ sym (drop-at (calls all k) (table (λ i. callAt all (k + i)) 0 m) k (length-table (callAt all) 0 k))
+      ∙ ap (drop k) (sym (table-add (callAt all) k m) ∙ ap (calls all) (omega (arith, h)))
+    where
+      m : ℕ
+      m = n - k
+
+      all : List ℕ
+      all = bytesFrom s p (16 * n)
+
+      moved : (i : ℕ) → i < m → callAt (bytesFrom s (p + 16 * k) (16 * m)) i ≡ callAt all (k + i)
+      moved i l =
+          let place : p + 16 * k + 16 * i ≡ p + 16 * (k + i) = omega arith in
+          call-from (p + 16 * k) m i l ∙ ap standing place ∙ sym (call-from p n (k + i) (omega (arith, h, l)))

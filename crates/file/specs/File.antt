@@ -1,11 +1,12 @@
 -- Trace files, over their bytes: which are accepted, and what an accepted one holds.
 -- Assumes nothing.
 use mathlib.Core.Bool.{Bool, true, cond, not, _&&_}
-use mathlib.Core.List.{List}
-use Prim.Native.Nat.{ℕ, zero, suc, _+_, _*_, _/_}
+use mathlib.Core.List.{List, _++_}
+use Prim.Native.Nat.{ℕ, zero, suc, _+_, _*_, _/_, _^_}
 use lib.Dec.{eqb, leb, ltb}
 use lib.ListN.{length}
-use Rattle.number.specs.Bytes.{byteAt, number, table}
+use lib.Seq.{sets}
+use Rattle.number.specs.Bytes.{byteAt, number, table, bytesOf}
 use Rattle.isa.specs.State.{registerBytes, stateLength, stateOf}
 use Rattle.isa.specs.Call.{Call, call}
 use Rattle.file.specs.declared.FileRefusal.{FileRefusal}
@@ -25,13 +26,29 @@ fileRefusalNumber Padding = 7
 
 -- ---- where things lie
 
--- the bytes of the table of contents
-abbrev pub contentsLength : ℕ
-contentsLength = 28
+-- n bytes from position p on, 0 past the end
+abbrev pub bytesFrom : List ℕ → ℕ → ℕ → List ℕ
+bytesFrom s p n = table (λ k. byteAt s (p + k)) 0 n
 
--- the steps start behind the starting state
-abbrev pub stepsBase : ℕ
-stepsBase = 5148
+-- "u32 section count"
+abbrev pub sectionCount : List ℕ → ℕ
+sectionCount file = number 4 (byteAt file) 0
+
+-- "A trace may carry a third section, kind 3, after the steps: u32 steps consumed, then the 5,128-byte state with its count." We call it the
+-- checkpoint.
+abbrev pub hasCheckpoint : List ℕ → Bool
+hasCheckpoint file = eqb (sectionCount file) 3
+
+abbrev pub checkpointLength : ℕ
+checkpointLength = 4 + stateLength
+
+-- "with a table of 40 bytes": the table of contents has 28 where there is no checkpoint
+abbrev pub contentsLength : List ℕ → ℕ
+contentsLength file = cond (hasCheckpoint file) 40 28
+
+-- the steps start behind the starting registers
+abbrev pub stepsBase : List ℕ → ℕ
+stepsBase file = contentsLength file + registerBytes
 
 abbrev pub stepBytes : ℕ
 stepBytes = 16
@@ -39,9 +56,57 @@ stepBytes = 16
 abbrev pub mostSteps : ℕ
 mostSteps = 2048
 
+-- n, from the length of the second section
+abbrev pub stepCount : List ℕ → ℕ
+stepCount file = number 4 (byteAt file) 24 / stepBytes
+
+-- the position behind the steps: that of the checkpoint, where there is one
+abbrev pub stepsEnd : List ℕ → ℕ
+stepsEnd file = stepsBase file + stepBytes * stepCount file
+
+-- ---- what a file holds
+
+-- "trace sections keep 5,120 register bytes"
+abbrev pub registersIn : List ℕ → List ℕ
+registersIn file = bytesFrom file (contentsLength file) registerBytes
+
+-- the starting state: "a run starts at 0"
+abbrev pub startOf : List ℕ → List ℕ
+startOf file = stateOf (registersIn file) 0
+
+-- the second section's bytes
+abbrev pub stepsIn : List ℕ → List ℕ
+stepsIn file = bytesFrom file (stepsBase file) (stepBytes * stepCount file)
+
+-- "u32 steps consumed"; none without a checkpoint
+abbrev pub consumedIn : List ℕ → ℕ
+consumedIn file = cond (hasCheckpoint file) (number 4 (byteAt file) (stepsEnd file)) 0
+
+-- "then the 5,128-byte state with its count"
+abbrev pub savedIn : List ℕ → List ℕ
+savedIn file = bytesFrom file (stepsEnd file + 4) stateLength
+
+-- the state that a run of the file goes on from: the saved one, whatever it is, or the starting state
+abbrev pub resumedFrom : List ℕ → List ℕ
+resumedFrom file = cond (hasCheckpoint file) (savedIn file) (startOf file)
+
+-- ---- steps, from the bytes of the second section or of a part of it
+
+-- whole steps, as many as a file may have at most
+abbrev pub recordsIn : List ℕ → ℕ
+recordsIn steps = let n = length steps / stepBytes in cond (ltb n mostSteps) n mostSteps
+
 -- the position of step i
 abbrev pub stepAt : ℕ → ℕ
-stepAt i = stepsBase + stepBytes * i
+stepAt i = stepBytes * i
+
+-- "u8 instruction, u8 generation, 6 zero bytes, u64 operand", of step i
+abbrev pub callAt : List ℕ → ℕ → Call
+callAt steps i = call (byteAt steps (stepAt i)) (byteAt steps (stepAt i + 1)) (number 8 (byteAt steps) (stepAt i + 8))
+
+-- the first n steps
+abbrev pub calls : List ℕ → ℕ → List Call
+calls steps n = table (callAt steps) 0 n
 
 -- ---- the table of contents
 
@@ -53,18 +118,24 @@ entryIs file p kind offset size =
     && eqb (number 4 (byteAt file) (p + 4)) offset
     && eqb (number 4 (byteAt file) (p + 8)) size
 
--- n, from the length of the second section
-abbrev pub stepCount : List ℕ → ℕ
-stepCount file = number 4 (byteAt file) 24 / stepBytes
+-- n from 0 to 2,048; the starting registers, and the steps
+unfoldable pub sectionsRight : List ℕ → Bool
+sectionsRight file =
+    leb (stepCount file) mostSteps
+    && entryIs file 4 1 (contentsLength file) registerBytes
+    && entryIs file 16 2 (stepsBase file) (stepBytes * stepCount file)
 
--- "u32 section count, 2"; the starting state; the steps, n of them from 0 to 2,048; and no byte behind them
+-- the checkpoint, with no more steps consumed than there are
+unfoldable pub checkpointRight : List ℕ → Bool
+checkpointRight file = entryIs file 28 3 (stepsEnd file) checkpointLength && leb (consumedIn file) (stepCount file)
+
+-- two sections, or three with the checkpoint, and no byte behind the last
 unfoldable pub contentsRight : List ℕ → Bool
 contentsRight file =
-    eqb (number 4 (byteAt file) 0) 2
-    && entryIs file 4 1 contentsLength registerBytes
-    && entryIs file 16 2 stepsBase (stepBytes * stepCount file)
-    && leb (stepCount file) mostSteps
-    && eqb (length file) (stepAt (stepCount file))
+    sectionsRight file
+    && cond (hasCheckpoint file)
+    (checkpointRight file && eqb (length file) (stepsEnd file + checkpointLength))
+    (eqb (sectionCount file) 2 && eqb (length file) (stepsEnd file))
 
 -- ---- the padding
 
@@ -75,40 +146,23 @@ all f (suc n) = all f n && f n
 
 -- "6 zero bytes", from byte 2 of step i on
 unfoldable pub paddingClear : List ℕ → ℕ → Bool
-paddingClear file i = all (λ k. eqb (byteAt file (stepAt i + 2 + k)) 0) 6
+paddingClear steps i = all (λ k. eqb (byteAt steps (stepAt i + 2 + k)) 0) 6
 
 -- the same for n steps
 unfoldable pub paddingsClear : List ℕ → ℕ → Bool
-paddingsClear file n = all (paddingClear file) n
+paddingsClear steps n = all (paddingClear steps) n
 
 -- ---- opening
 
--- "Refused 5: shorter than 28 bytes. Refused 6: count or an entry differs from the above, or the file's length is not 5,148 + 16n.
--- Refused 7: a padding byte not 0. In that order, before any step."
+-- "Refused 5: shorter than 28 bytes", which "also covers a count of 3 in under 40 bytes". "Refused 6: count or an entry differs from the above, or
+-- the file's length"; it "checks all three entries, the length, and consumed above n". "Refused 7: a padding byte not 0", of a consumed step too.
+-- "In that order, before any step."
 unfoldable pub openedAs : List ℕ → Opened
 openedAs file =
-    cond (ltb (length file) contentsLength) (Refused Short)
+    cond (ltb (length file) (contentsLength file)) (Refused Short)
     (cond (not (contentsRight file)) (Refused Contents)
-    (cond (not (paddingsClear file (stepCount file))) (Refused Padding)
+    (cond (not (paddingsClear (stepsIn file) (stepCount file))) (Refused Padding)
     (Steps (stepCount file))))
-
--- ---- what a file holds
-
--- "u8 instruction, u8 generation, 6 zero bytes, u64 operand", of step i
-abbrev pub callAt : List ℕ → ℕ → Call
-callAt file i = call (byteAt file (stepAt i)) (byteAt file (stepAt i + 1)) (number 8 (byteAt file) (stepAt i + 8))
-
--- the first n steps
-abbrev pub calls : List ℕ → ℕ → List Call
-calls file n = table (callAt file) 0 n
-
--- "trace sections keep 5,120 register bytes"
-abbrev pub registersIn : List ℕ → List ℕ
-registersIn file = table (λ k. byteAt file (contentsLength + k)) 0 registerBytes
-
--- the starting state: "a run starts at 0"
-abbrev pub startOf : List ℕ → List ℕ
-startOf file = stateOf (registersIn file) 0
 
 -- ---- reading step by step
 
@@ -125,13 +179,30 @@ atStep c = ltb (c .next) (c .end) && ltb (c .next) mostSteps
 
 -- the step that a cursor is at, with the cursor behind it
 abbrev pub readAs : List ℕ → Cursor → Read
-readAs file c =
+readAs steps c =
     cond (atStep c)
-    (read.Record (recordOf (callAt file (c .next))) (cursor (c .next + 1) (c .end)))
+    (read.Record (recordOf (callAt steps (c .next))) (cursor (c .next + 1) (c .end)))
     read.End
 
--- ---- loading the starting state
+-- ---- loading the state that a run goes on from
 
--- a state of another length, or a file with no whole starting state, leaves the state unchanged
+-- a state of another length is left as it is
 abbrev pub loadedFrom : List ℕ → List ℕ → List ℕ
-loadedFrom file state = cond (eqb (length state) stateLength && leb stepsBase (length file)) (startOf file) state
+loadedFrom file state = cond (eqb (length state) stateLength) (resumedFrom file) state
+
+-- ---- storing a checkpoint
+
+-- the third section of a run that was stopped after so many steps
+abbrev pub checkpointOf : ℕ → List ℕ → List ℕ
+checkpointOf consumed state = bytesOf 4 consumed ++ state
+
+-- whether the number fits its u32, the state is whole and a buffer holds its checkpoint
+abbrev pub storable : ℕ → List ℕ → List ℕ → Bool
+storable consumed state out = ltb consumed (2 ^ 32) && eqb (length state) stateLength && leb checkpointLength (length out)
+
+-- the buffer afterwards, and how many bytes were stored: none where one of these fails
+abbrev pub checkpointIn : List ℕ → ℕ → List ℕ → List ℕ
+checkpointIn out consumed state = cond (storable consumed state out) (sets out 0 (checkpointOf consumed state)) out
+
+abbrev pub storedBytes : List ℕ → ℕ → List ℕ → ℕ
+storedBytes out consumed state = cond (storable consumed state out) checkpointLength 0

@@ -3,33 +3,27 @@
 use mathlib.Core.Path.{_≡_, refl, sym, ap, _∙_}
 use mathlib.Core.List.{List, [], _∷_, _++_}
 use Prim.Native.Nat.{ℕ, suc, _+_, _*_, _/_, _%_, _≤_, _<_}
-use native.Mathlib.Nat.{add-zero, le-of-lt}
+use native.Mathlib.Nat.{le-of-lt}
 use native.Mathlib.Numerals.{add-one}
 use native.Mathlib.Omega.{arith}
 use lib.ListN.{length, getD, set, take, length-append}
 use lib.Seq.{sets, take-suc, take-all, length-take-le}
+use Rattle.number.proofs.Slice.{sets-append}
 use Rattle.text.specs.Lines.{hexDigit, hex}
 
 -- t is s with xs stored from `at` on, and r is the position after them
 abbrev pub Stored : List ℕ → ℕ → List ℕ → List ℕ → ℕ → Type 0
 Stored s at xs t r = (t ≡ sets s at xs) × (r ≡ at + length xs)
 
--- the law of appending
-pub sets-append : (s : List ℕ) (at : ℕ) (xs ys : List ℕ) → sets (sets s at xs) (at + length xs) ys ≡ sets s at (xs ++ ys)
-sets-append s at [] ys = ap (λ (k : ℕ). sets s k ys) (add-zero at)
-sets-append s at (x ∷ xs) ys =
-    let next : at + suc (length xs) ≡ suc at + length xs = omega arith in
-    ap (λ (k : ℕ). sets (sets (set s at x) (suc at) xs) k ys) next ∙ sets-append (set s at x) (suc at) xs ys
-
 pub stored-append : (s t u : List ℕ) (at a b : ℕ) (xs ys : List ℕ) → Stored s at xs t a → Stored t a ys u b → Stored s at (xs ++ ys) u b
 stored-append s t u at a b xs ys (e, l) (f, m) =
-    (f ∙ (λ i. sets (e i) (l i) ys) ∙ sets-append s at xs ys, omega (arith, l, m, length-append xs ys))
+    (f ∙ (λ i. sets (e i) (l i) ys) ∙ sym (sets-append s at xs ys), omega (arith, l, m, length-append xs ys))
 
 -- one more byte of a word
 pub word-more : (s t u : List ℕ) (at i b : ℕ) (word : List ℕ) → i < length word → b ≡ getD word i 0 → t ≡ sets s at (take i word) → u ≡ set t (at + i) b → u ≡ sets s at (take (i + 1) word)
 word-more s t u at i b word h byte e f =
     let front : i ≡ length (take i word) = sym (length-take-le i word (le-of-lt h)) in
-    f ∙ (λ k. sets (e k) (at + front k) (byte k ∷ [])) ∙ sets-append s at (take i word) (getD word i 0 ∷ [])
+    f ∙ (λ k. sets (e k) (at + front k) (byte k ∷ [])) ∙ sym (sets-append s at (take i word) (getD word i 0 ∷ []))
     ∙ ap (sets s at) (sym (take-suc word i 0 h) ∙ ap (λ (k : ℕ). take k word) (sym (add-one i)))
 
 -- ---- hex
@@ -52,7 +46,7 @@ pub hex-more : (s t u : List ℕ) (at i b : ℕ) (bytes : List ℕ) → i < leng
 unfolding hex
 hex-more s t u at i b bytes h byte e f =
     let front : 2 * i ≡ length (hex (take i bytes)) = omega (arith, length-hex (take i bytes), length-take-le i bytes (le-of-lt h)) in
-    f ∙ (λ k. sets (e k) (at + front k) (hex (byte k ∷ []))) ∙ sets-append s at (hex (take i bytes)) (hex (getD bytes i 0 ∷ []))
+    f ∙ (λ k. sets (e k) (at + front k) (hex (byte k ∷ []))) ∙ sym (sets-append s at (hex (take i bytes)) (hex (getD bytes i 0 ∷ [])))
     ∙ ap (sets s at) (sym (hex-append (take i bytes) (getD bytes i 0 ∷ [])))
     ∙ ap (λ (r : List ℕ). sets s at (hex r)) (sym (take-suc bytes i 0 h) ∙ ap (λ (k : ℕ). take k bytes) (sym (add-one i)))
 

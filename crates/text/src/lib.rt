@@ -94,10 +94,10 @@ fn put_answer(out: &mut [u8], at: usize, answer: isa::Answer) -> usize
 }
 
 // A step's place and its answer.
-pub fn step_line(out: &mut [u8], at: u32, place: u32, answer: isa::Answer) -> usize
+pub fn step_line(out: &mut [u8], at: u32, place: u64, answer: isa::Answer) -> usize
     ensures { λ r. ⌜ (now (out .exit) ≡ sets (now (out .entry)) at (stepLine place answer)) × (r ≡ at + length (stepLine place answer)) ⌝ }
 {
-    let next = put_counted(out, at as usize, b"step ", place as u64);
+    let next = put_counted(out, at as usize, b"step ", place);
     let next = put(out, next, b' ');
     let next = put_answer(out, next, answer);
     put(out, next, b'\n')

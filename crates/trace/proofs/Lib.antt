@@ -1,7 +1,9 @@
-pub mod Calls
+pub mod Remaining
 pub mod Short
 pub mod Rows
-pub mod Reading
 pub mod Room
 pub mod Swapped
-pub mod Line
+pub mod Resumed
+pub mod Stands
+pub mod Cuts
+pub mod Across

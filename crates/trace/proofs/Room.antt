@@ -1,6 +1,6 @@
 -- A file's text, piece after piece, and printing by the branches of the code.
 -- Assumes nothing.
-use mathlib.Core.Path.{_≡_, sym, ap, subst, _∙_}
+use mathlib.Core.Path.{_≡_, sym, ap, _∙_}
 use mathlib.Core.Bool.{true, false, _&&_}
 use mathlib.Core.List.{List, _++_}
 use Prim.Native.Nat.{ℕ, _≤_, _<_}
@@ -11,33 +11,45 @@ use lib.ListN.{length}
 use lib.Seq.{sets}
 use Rattle.number.proofs.Tests.{pick-true, pick-false}
 use Rattle.isa.specs.State.{stateLength}
+use Rattle.isa.specs.Call.{Call}
+use Rattle.isa.specs.Step.{run}
 use Rattle.file.specs.declared.Opened.{Opened}
 use Rattle.file.specs.declared.FileRefusal.{FileRefusal}
-use Rattle.file.specs.File.{fileRefusalNumber, openedAs, startOf}
+use Rattle.file.specs.File.{fileRefusalNumber, openedAs, registersIn, consumedIn, resumedFrom}
 use Rattle.text.specs.Lines.{stepsLine, refusedLine}
 use Rattle.text.proofs.Pieces.{Stored, stored-append}
 use Rattle.trace.specs.declared.Printed.{Printed}
 use Rattle.trace.specs.declared.Printed.the-variants.{Text, NoRoom}
-use Rattle.trace.specs.Trace.{zLines, ended, acceptedText, textBy, textOf, endBy, endOf, roomLength, hasRoom, printedAs, stateAfter, outAfter}
-use Rattle.trace.proofs.Calls.{linesTo}
+use Rattle.steps.specs.Steps.{stepLines}
+use Rattle.trace.specs.Trace.{zLines, remaining, ended, acceptedText, textBy, textOf, endBy, endOf}
+use Rattle.trace.specs.Trace.{roomLength, hasRoom, printedAs, stateAfter, outAfter}
 
 -- the lines of steps, those of rows, and the last one
-pub accepted-stored : (file state out₀ out₁ out₂ out₃ : List ℕ) (n a b r : ℕ) → state ≡ ended file n
-    → out₁ ≡ sets out₀ 0 (linesTo file n) → a ≡ length (linesTo file n)
-    → Stored out₁ a (zLines (startOf file) state) out₂ b → Stored out₂ b (stepsLine n) out₃ r
-    → (state ≡ ended file n) × (out₃ ≡ sets out₀ 0 (acceptedText file n)) × (r ≡ length (acceptedText file n))
-accepted-stored file state out₀ out₁ out₂ out₃ n a b r s e l rows last =
-    let first : Stored out₀ 0 (linesTo file n) out₁ a = (e, l ∙ sym (zero-add (length (linesTo file n)))) in
-    let second : Stored out₁ a (zLines (startOf file) (ended file n)) out₂ b =
-    subst (λ (t : List ℕ). Stored out₁ a (zLines (startOf file) t) out₂ b) s rows
-    in
-    let both : Stored out₀ 0 (linesTo file n ++ zLines (startOf file) (ended file n)) out₂ b =
-    stored-append out₀ out₁ out₂ 0 a b (linesTo file n) (zLines (startOf file) (ended file n)) first second
-    in
-    let all : Stored out₀ 0 (acceptedText file n) out₃ r =
-    stored-append out₀ out₂ out₃ 0 b r (linesTo file n ++ zLines (startOf file) (ended file n)) (stepsLine n) both last
-    in
-    (s, all .0, all .1 ∙ zero-add (length (acceptedText file n)))
+module _ (file start s₀ : List ℕ) (cs : List Call) (n k : ℕ)
+    (d : cs ≡ remaining file) (f : k ≡ consumedIn file) (g : start ≡ registersIn file) (went : s₀ ≡ resumedFrom file) where
+  abbrev lines : List ℕ
+  lines = stepLines cs k s₀
+
+  pub accepted-stored : (state out₀ out₁ out₂ out₃ : List ℕ) (a b r : ℕ) → state ≡ run cs s₀ → out₁ ≡ sets out₀ 0 lines → a ≡ length lines
+      → Stored out₁ a (zLines start state) out₂ b → Stored out₂ b (stepsLine n) out₃ r
+      → (state ≡ ended file) × (out₃ ≡ sets out₀ 0 (acceptedText file n)) × (r ≡ length (acceptedText file n))
+  accepted-stored state out₀ out₁ out₂ out₃ a b r s e l rows last = (
+    same,
+    all .0 ∙ ap (sets out₀ 0) texts,
+    all .1 ∙ zero-add (length (lines ++ zLines start state ++ stepsLine n)) ∙ ap length texts,
+  )
+    where
+      same : state ≡ ended file
+      same = s ∙ (λ i. run (d i) (went i))
+
+      texts : lines ++ zLines start state ++ stepsLine n ≡ acceptedText file n
+      texts = λ i. stepLines (d i) (f i) (went i) ++ zLines (g i) (same i) ++ stepsLine n
+
+      both : Stored out₀ 0 (lines ++ zLines start state) out₂ b
+      both = stored-append out₀ out₁ out₂ 0 a b lines (zLines start state) (e, l ∙ sym (zero-add (length lines))) rows
+
+      all : Stored out₀ 0 (lines ++ zLines start state ++ stepsLine n) out₃ r
+      all = stored-append out₀ out₂ out₃ 0 b r (lines ++ zLines start state) (stepsLine n) both last
 
 -- a refusal's line
 pub refused-stored : (out out′ : List ℕ) (number r : ℕ) (k : FileRefusal) → number ≡ fileRefusalNumber k → Stored out 0 (refusedLine number) out′ r

@@ -11,12 +11,11 @@ use native.Mathlib.Omega.{arith}
 use borrow.Author.Tests.{eq-eqb, ne-eqb}
 use lib.Dec.{eqb}
 use lib.ListN.{length}
-use Rattle.number.specs.Bytes.{byteAt, table}
+use Rattle.number.specs.Bytes.{byteAt}
 use Rattle.number.proofs.Tests.{pick-true, pick-false, is-false, true-false, lt-or-le}
-use Rattle.number.proofs.Bytes.{length-table, table-same}
-use Rattle.file.specs.File.{all, startOf}
+use Rattle.number.proofs.Bytes.{length-table}
+use Rattle.file.specs.File.{all}
 use Rattle.file.proofs.Paddings.{all-at, all-true}
-use Rattle.file.proofs.Records.{start-byte}
 use Rattle.text.specs.Lines.{zLine}
 use Rattle.text.proofs.Pieces.{Stored, stored-append}
 use Rattle.trace.proofs.Short.{z-short}
@@ -50,26 +49,16 @@ same-more a b k old e j h =
     subst (λ (i : ℕ). byteAt a i ≡ byteAt b i) here e)
     (lt-or-le j k)
 
--- ---- the row of the starting state, in the file
-
-start-row : (file : List ℕ) (r : ℕ) → r < 64 → table (λ k. byteAt file (28 + (1024 + r * 64) + k)) 0 64 ≡ rowOf (startOf file) r
-start-row file r h =
-    table-same (λ k. byteAt file (28 + (1024 + r * 64) + k)) (λ k. byteAt (startOf file) (1024 + r * 64 + k)) 64
-    (λ k l.
-    let place : 28 + (1024 + r * 64) + k ≡ 28 + (1024 + r * 64 + k) = omega arith in
-    ap (byteAt file) place ∙ sym (start-byte file (1024 + r * 64 + k) (omega arith)))
-
 -- ---- a row's line, by the branches of the code
 
-module _ (file state before after : List ℕ) (r : ℕ) (h : r < 64)
-    (b : before ≡ table (λ k. byteAt file (28 + (1024 + r * 64) + k)) 0 64) (a : after ≡ rowOf state r) where
-  changed : (t : Bool) → t ≡ differ before after → t ≡ rowChanged (startOf file) state r
-  changed t e = e ∙ (λ i. differ ((b ∙ start-row file r h) i) (a i))
+module _ (start state before after : List ℕ) (r : ℕ) (h : r < 64) (b : before ≡ rowOf start r) (a : after ≡ rowOf state r) where
+  changed : (t : Bool) → t ≡ differ before after → t ≡ rowChanged start state r
+  changed t e = e ∙ (λ i. differ (b i) (a i))
 
-  pub line-none : (t : Bool) → t ≡ differ before after → t ≡ false → [] ≡ rowLine (startOf file) state r
+  pub line-none : (t : Bool) → t ≡ differ before after → t ≡ false → [] ≡ rowLine start state r
   line-none t e f = sym (pick-false _ _ (sym (changed t e) ∙ f))
 
-  pub line-there : (t : Bool) → t ≡ differ before after → t ≡ true → zLine r after ≡ rowLine (startOf file) state r
+  pub line-there : (t : Bool) → t ≡ differ before after → t ≡ true → zLine r after ≡ rowLine start state r
   line-there t e f = ap (zLine r) a ∙ sym (pick-true _ _ (sym (changed t e) ∙ f))
 
   pub line-fits : length (zLine r after) ≤ 152

@@ -1,8 +1,8 @@
--- The steps of an accepted file are a list of calls as demand 3 has them.
+-- The steps of an accepted file that are not yet consumed are a list of calls as demand 3 has them.
 -- Assumes nothing.
 use Rattle.isa.proofs.Rearranged.{rearranged}
-use Rattle.file.specs.File.{calls, startOf}
-use Rattle.trace.specs.Trace.{FileRearranged}
+use Rattle.file.specs.File.{resumedFrom}
+use Rattle.trace.specs.Trace.{remaining, FileRearranged}
 
 pub file-rearranged : FileRearranged
-file-rearranged file n opened chain allowed = rearranged (calls file n) (startOf file) chain allowed
+file-rearranged file n opened chain allowed = rearranged (remaining file) (resumedFrom file) chain allowed

@@ -2,32 +2,25 @@
 -- Assumes nothing.
 use mathlib.Core.Path.{_≡_}
 use mathlib.Core.Bool.{Bool, cond, not, _&&_}
-use mathlib.Core.List.{List, [], _++_, _∷_}
+use mathlib.Core.List.{List, [], _++_}
 use Prim.Native.Nat.{ℕ, zero, suc, _+_, _*_, _≤_}
 use lib.Dec.{eqb, leb}
-use lib.ListN.{length}
+use lib.ListN.{length, drop}
 use lib.Seq.{sets}
 use Rattle.number.specs.Bytes.{byteAt, table}
 use Rattle.isa.specs.State.{stateLength, zBase, rows, rowBytes}
 use Rattle.isa.specs.Call.{Call}
-use Rattle.isa.specs.Step.{answerDue, stepDue, run, answers}
+use Rattle.isa.specs.Step.{run, answers}
 use Rattle.isa.specs.Swap.{swaps, Allowed}
 use Rattle.file.specs.declared.Opened.{Opened}
 use Rattle.file.specs.declared.Opened.the-variants.{Steps, Refused}
-use Rattle.file.specs.declared.Cursor.{Cursor}
-use Rattle.file.specs.File.{fileRefusalNumber, all, atStep, openedAs, callAt, calls, startOf, cursor}
-use Rattle.text.specs.Lines.{stepLine, zLine, stepsLine, refusedLine}
+use Rattle.file.specs.File.{fileRefusalNumber, all, openedAs, calls, stepCount, registersIn, stepsIn, consumedIn, resumedFrom}
+use Rattle.text.specs.Lines.{zLine, stepsLine, refusedLine}
+use Rattle.steps.specs.Steps.{stepLines}
 use Rattle.trace.specs.declared.Printed.{Printed}
 use Rattle.trace.specs.declared.Printed.the-variants.{Text, NoRoom}
-use Rattle.trace.specs.declared.Ran.{Ran}
-use Rattle.trace.specs.declared.Ran.the-variants.{Answered, End}
 
--- ---- lines
-
--- the lines of calls, one for each, from place i on: "each call gets it as the last one left it", and the "driver takes the serial from the count"
-unfoldable pub stepLines : List Call → ℕ → List ℕ → List ℕ
-stepLines [] i s = []
-stepLines (c ∷ cs) i s = stepLine i (answerDue s c) ++ stepLines cs (suc i) (stepDue c s)
+-- ---- rows
 
 -- the 64 bytes of Z row r
 abbrev pub rowOf : List ℕ → ℕ → List ℕ
@@ -55,13 +48,21 @@ zLines start end = rowLines start end rows
 
 -- ---- a file
 
--- the state after n steps of a file
-abbrev pub ended : List ℕ → ℕ → List ℕ
-ended file n = run (calls file n) (startOf file)
+-- all steps of a file
+abbrev pub callsIn : List ℕ → List Call
+callsIn file = calls (stepsIn file) (stepCount file)
 
--- "then `steps` and n"
+-- "the steps not yet consumed": "Resuming reads on from there"; without a checkpoint all of them
+abbrev pub remaining : List ℕ → List Call
+remaining file = drop (consumedIn file) (callsIn file)
+
+-- the state that a run of the file ends in
+abbrev pub ended : List ℕ → List ℕ
+ended file = run (remaining file) (resumedFrom file)
+
+-- "Step numbers go on from the consumed count"; rows are held against the starting registers, wherever the run began; "then `steps` and n"
 abbrev pub acceptedText : List ℕ → ℕ → List ℕ
-acceptedText file n = stepLines (calls file n) 0 (startOf file) ++ zLines (startOf file) (ended file n) ++ stepsLine n
+acceptedText file n = stepLines (remaining file) (consumedIn file) (resumedFrom file) ++ zLines (registersIn file) (ended file) ++ stepsLine n
 
 -- "a refused file gives only `file refused 6` or its like"
 abbrev pub textBy : List ℕ → Opened → List ℕ
@@ -73,7 +74,7 @@ textOf file = textBy file (openedAs file)
 
 -- the state that is left: a refused file runs no step
 abbrev pub endBy : List ℕ → List ℕ → Opened → List ℕ
-endBy file state (Steps n) = ended file n
+endBy file state (Steps n) = ended file
 endBy file state (Refused r) = state
 
 unfoldable pub endOf : List ℕ → List ℕ → List ℕ
@@ -100,24 +101,16 @@ stateAfter file state out = cond (hasRoom state out) (endOf file state) state
 abbrev pub outAfter : List ℕ → List ℕ → List ℕ → List ℕ
 outAfter file state out = cond (hasRoom state out) (sets out 0 (textOf file)) out
 
--- ---- one record
-
--- what running the record at a cursor answers, and the state after it
-abbrev pub ranAs : List ℕ → List ℕ → Cursor → Ran
-ranAs file state c = cond (atStep c) (Answered (answerDue state (callAt file (c .next))) (cursor (c .next + 1) (c .end))) End
-
-abbrev pub ranState : List ℕ → List ℕ → Cursor → List ℕ
-ranState file state c = cond (atStep c) (stepDue (callAt file (c .next)) state) state
-
 -- ---- what is proved of it
 
 -- no text is cut
 abbrev pub Fits : Type 0
 Fits = (file : List ℕ) → length (textOf file) ≤ roomLength
 
--- "The steps of an accepted trace file are such a list": every chain of allowed swaps of them leaves the same state and the same answers
+-- "The steps of an accepted trace file are such a list": every chain of allowed swaps of them leaves the same state and the same answers. "When such a
+-- file is resumed, demand 3's list is the steps not yet consumed, run from the saved state."
 abbrev pub FileRearranged : Type 0
 FileRearranged =
-    (file : List ℕ) (n : ℕ) → openedAs file ≡ Steps n → (chain : List ℕ) → Allowed (startOf file) chain (calls file n)
-    → (run (swaps chain (calls file n)) (startOf file) ≡ run (calls file n) (startOf file))
-    × (answers (swaps chain (calls file n)) (startOf file) ≡ swaps chain (answers (calls file n) (startOf file)))
+    (file : List ℕ) (n : ℕ) → openedAs file ≡ Steps n → (chain : List ℕ) → Allowed (resumedFrom file) chain (remaining file)
+    → (run (swaps chain (remaining file)) (resumedFrom file) ≡ ended file)
+    × (answers (swaps chain (remaining file)) (resumedFrom file) ≡ swaps chain (answers (remaining file) (resumedFrom file)))

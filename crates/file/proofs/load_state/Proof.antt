@@ -1,97 +1,77 @@
-use mathlib.Core.Path.{_≡_, refl, sym, _∙_}
-use Prim.Native.Nat.{ℕ, _+_, _-_, _≤_}
-use native.Mathlib.Nat.{not-suc-le-zero}
-use native.Mathlib.Omega.{arith}
+use mathlib.Core.Path.{sym, ap, _∙_}
+use mathlib.Core.List.{List}
+use Prim.Native.Nat.{ℕ}
+use lib.Seq.{sets}
+use Rattle.number.specs.Bytes.{bytesOf}
+use Rattle.file.proofs.States.{load-other, load-saved, load-start}
 use borrow.Author.Needs.{needs}
-use lib.ListN.{length, length-set}
-use Rattle.number.specs.Bytes.{byteAt}
-use Rattle.number.proofs.Fill.{Filled, fill-more}
-use Rattle.file.proofs.Records.{load-length, load-short, load-all, start-stored}
 use Rattle.file.proofs.load_state.Statement.{statement}
 use Rattle.file.proofs.load_state.Tie as tie
 
-abbrev Inv-loop : tie.InvT-loop
-Inv-loop file state₀ i₀ state i = (i ≤ 5120) × (length state ≡ 5128) × Filled 0 (λ (k : ℕ). byteAt file (28 + k)) state i
-
-abbrev μ-loop : tie.MeasureT-loop
-μ-loop file state₀ i₀ state i = 5120 - i
-
-returns : tie.Need-returns Inv-loop μ-loop
+returns : tie.Need-returns
 returns c =
     let a = c .before .before .before .args in
-    load-length (a .file .now) (a .state .now) (c .if1 .taken)
+    load-other (a .file .now) (a .state .now) (c .if1 .taken)
 
-returns-2 : tie.Need-returns-2 Inv-loop μ-loop
+has-checkpoint-requires : tie.Need-has-checkpoint-requires
+has-checkpoint-requires c κs = search needs
+
+steps-end-requires : tie.Need-steps-end-requires
+steps-end-requires c κs = search needs
+
+add-saved : tie.Need-add-saved
+add-saved c = search needs
+
+copy-bytes-requires : tie.Need-copy-bytes-requires
+copy-bytes-requires c κs = search needs
+
+same-length : tie.Need-same-length
+same-length c = search needs
+
+returns-2 : tie.Need-returns-2
 returns-2 c =
-    let a = c .before .before .before .before .args in
-    load-short (a .file .now) (a .state .now) (c .before .if1 .left) (c .if2 .taken)
+    let copied = c .before .before in
+    let end = copied .before .before in
+    let three = end .before in
+    let told = three .before in
+    let whole = told .before in
+    let a = whole .before .before .before .args in
+    copied .copy-bytes .ensures
+    ∙ load-saved (a .file .now) (a .state .now) (whole .if1 .left) (sym (told .has-checkpoint .ensures) ∙ three .if2 .taken)
+    (end .steps-end .result) (end .steps-end .ensures .0)
 
-loop-holds : tie.Need-loop-holds Inv-loop μ-loop
-loop-holds c = (omega arith, c .before .if1 .left, λ j h. absurd (not-suc-le-zero h))
+copy-bytes-requires-2 : tie.Need-copy-bytes-requires-2
+copy-bytes-requires-2 c κs = search needs
 
-add-state : tie.Need-add-state Inv-loop μ-loop
-add-state c = search needs
-
-shared-slice-read-state : tie.Need-shared-slice-read-state Inv-loop μ-loop
-shared-slice-read-state c = search needs
-
-slice-write-state : tie.Need-slice-write-state Inv-loop μ-loop
-slice-write-state c = search needs
-
-add-i : tie.Need-add-i Inv-loop μ-loop
-add-i c = search needs
-
-loop-less : tie.Need-loop-less Inv-loop μ-loop
-loop-less c = search needs
-
-loop-again : tie.Need-loop-again Inv-loop μ-loop
-loop-again c =
-    let place = c .before .before in
-    let turn = place .loop in
-    let a = place .before .before .before .before .before .args in
-    let size = turn .inv .1 in (
-      omega arith,
-      simp length-set (omega (arith, size)),
-      fill-more 0 (λ (k : ℕ). byteAt (a .file .now) (28 + k)) (turn .i) _ (turn .state) (omega (arith, size)) refl (turn .inv .2),
-    )
-
-put64-requires : tie.Need-put64-requires Inv-loop μ-loop
+put64-requires : tie.Need-put64-requires
 put64-requires c κs = search needs
 
-same-length : tie.Need-same-length Inv-loop μ-loop
-same-length c =
-    let put = c .before .before in
-    let place = put .before .before .before in
-    put .put64 .kept .0 ∙ place .loop .inv .1 ∙ sym (place .before .before .if1 .left)
+same-length-2 : tie.Need-same-length-2
+same-length-2 c = search needs
 
-returns-3 : tie.Need-returns-3 Inv-loop μ-loop
+returns-3 : tie.Need-returns-3
 returns-3 c =
     let put = c .before .before in
-    let end = put .before .before in
-    let place = end .before in
-    let turn = place .loop in
-    let long = place .before in
-    let whole = long .before in
+    let copied = put .before .before .before .before in
+    let two = copied .before .before in
+    let told = two .before in
+    let whole = told .before in
     let a = whole .before .before .before .args in
-    put .put64 .ensures
-    ∙ start-stored (a .file .now) (turn .state) (turn .inv .1) (turn .i) (end .loop-test .left) (turn .inv .2)
-    ∙ load-all (a .file .now) (a .state .now) (whole .if1 .left) (long .if2 .left)
+    put .put64 .ensures ∙ ap (λ (s : List ℕ). sets s 5120 (bytesOf 8 0)) (copied .copy-bytes2 .ensures)
+    ∙ load-start (a .file .now) (a .state .now) (whole .if1 .left) (sym (told .has-checkpoint .ensures) ∙ two .if2 .left)
 
 pub load-state-spec : {M : Type 1} → statement M
 load-state-spec =
     tie.close
     (tie.spec
-    Inv-loop
-    μ-loop
     returns
-    returns-2
-    loop-holds
-    add-state
-    shared-slice-read-state
-    slice-write-state
-    add-i
-    loop-less
-    loop-again
-    put64-requires
+    has-checkpoint-requires
+    steps-end-requires
+    add-saved
+    copy-bytes-requires
     same-length
+    returns-2
+    copy-bytes-requires-2
+    put64-requires
+    same-length-2
     returns-3)

@@ -1,12 +1,15 @@
 //! The proved unit against the reference, on swept and random inputs.
 mod case;
 mod counts;
+mod cuts;
 mod sent;
 mod steps;
 mod swaps;
+mod tally;
 mod traces;
 
-use amx::{random::Random, text::parse_number};
+use crate::tally::Tally;
+use amx::{random::Random, reference, text::parse_number};
 use std::{path::PathBuf, process::ExitCode, time::Instant};
 
 const HELP: &str = "\
@@ -15,7 +18,8 @@ compare [OPTIONS]: the proved unit against the reference
   --steps N         random steps (400000); sequences, normal operands, swaps and traces follow it
   --trace PROGRAM   the trace program (../target/bin/amx_trace)
   --need-trace      it is an error where the trace program is not there
-A difference ends it with status 1, and with the smallest case found; so does an answer that no step met.";
+A difference ends it with status 1, and with the smallest case found; so does an answer or a kind of
+file that was not met.";
 
 struct Options {
     seed: u64,
@@ -50,13 +54,13 @@ fn compare(options: &Options) -> Result<(), String> {
     let random = |part| Random::new(seed.wrapping_mul(16) + part);
     let counts = counts::every(case::proved)?;
     println!("{counts} steps, every enable mode, value and lane width: as many bytes counted as a walk over Z finds in enabled lanes");
-    let mut tally = steps::Tally::default();
+    let mut tally = Tally::default();
     let beside = steps::table(case::proved, &mut random(7), &mut tally)?;
     println!("{beside} steps, the rows of the table beside each other: same bytes, same answers ({})", tally.text());
-    let mut tally = steps::Tally::default();
+    let mut tally = Tally::default();
     let swept = steps::swept(&mut random(0), &mut tally)?;
     println!("{swept} swept steps: same bytes, same answers ({})", tally.text());
-    let mut tally = steps::Tally::default();
+    let mut tally = Tally::default();
     let drawn = steps::random(&mut random(1), steps, &mut tally)?;
     println!("{drawn} random steps: same bytes, same answers ({})", tally.text());
     let lists = steps / 400;
@@ -80,13 +84,28 @@ fn compare(options: &Options) -> Result<(), String> {
         swaps.no_room,
         swaps.no_room_differ
     );
-    let files = traces::reader(&mut random(5), steps / 200)?;
+    let checkpoints = cuts::checkpoints(cuts::proved_checkpoint, &mut random(8))?;
+    println!("{checkpoints} checkpoints, of states and rooms of any length: the reference's bytes and answers");
+    let (files, tally) = traces::reader(&mut random(5), steps / 200)?;
     println!(
-        "{files} trace files, sound and damaged: this crate reads them as the reference does, and runs end at the count of steps taken"
+        "{files} trace files of two sections and three, sound and damaged: this crate reads them as the reference does, \
+         and runs end at the count of steps taken ({})",
+        tally.text()
     );
+    let (cut, tally) = cuts::cuts(
+        cuts::proved_cut,
+        &mut random(9),
+        steps / 1_000,
+        &[("this crate", &traces::read_text), ("the reference", &reference::trace)],
+    )?;
+    println!("{cut} cuts of traces: the reference's files, and the lines of both parts are those of the whole ({})", tally.text());
     if options.trace.is_file() {
-        let files = traces::program(&mut random(6), &options.trace, steps / 1_000)?;
-        println!("{files} trace files, sound and damaged: the trace program prints the reference's text");
+        let program = traces::Program::new(&options.trace)?;
+        let (files, _) = program.compare(&mut random(6), steps / 1_000)?;
+        println!("{files} trace files of two sections and three, sound and damaged: the trace program prints the reference's text");
+        let text = |file: &[u8]| program.text(file);
+        let (cut, _) = cuts::cuts(cuts::proved_cut, &mut random(10), steps / 4_000, &[("the trace program", &text)])?;
+        println!("{cut} cuts of traces: the trace program goes on with them");
     } else if options.need_trace {
         return Err(format!("there is no trace program {}\n", options.trace.display()));
     } else {

@@ -1,40 +1,12 @@
 //! Steps one by one and in sequences, and normal operands.
 use crate::case::{Case, Step, agree, difference, proved, second};
 use crate::sent::{Sent, Serial, count_of, draw_count, draw_state, set_count};
+use crate::tally::Tally;
 use amx::{Answer, Call, REGISTER_BYTES, Refusal, STATE_LENGTH, normal, random::Random, random::put, reference};
-use std::collections::BTreeMap;
 
 /// Every answer, done with no lane apart. Sweeps of operands, on states of the right length, do not meet the first three.
 const ANSWERS: [&str; 11] =
     ["refused 1", "refused 2", "refused 3", "refused 4", "refused 8", "refused 9", "no-op 1", "no-op 2", "no-op 3", "done", "done 0"];
-
-/// How often each answer came.
-#[derive(Default)]
-pub struct Tally(BTreeMap<String, u64>);
-
-impl Tally {
-    fn count(&mut self, number: u64) {
-        let name = match Answer::from_number(number) {
-            Some(Answer::Done { bytes: 0 }) => "done 0".to_owned(),
-            Some(Answer::Done { .. }) => "done".to_owned(),
-            Some(other) => other.to_string(),
-            None => "no answer".to_owned(),
-        };
-        *self.0.entry(name).or_default() += 1;
-    }
-
-    /// An error where one of these answers never came: steps that do not meet it compare nothing of it.
-    fn needs(&self, answers: &[&str], steps: &str) -> Result<(), String> {
-        match answers.iter().find(|&&answer| !self.0.contains_key(answer)) {
-            Some(answer) => Err(format!("of the {steps} none was answered {answer}, so that it was not compared")),
-            None => Ok(()),
-        }
-    }
-
-    pub fn text(&self) -> String {
-        self.0.iter().map(|(name, count)| format!("{name}: {count}")).collect::<Vec<_>>().join(", ")
-    }
-}
 
 /// Two states that go through the same steps, one by each program.
 struct Pair {
@@ -442,13 +414,5 @@ mod tests {
         // a state of another length uses no serial up
         let short = Case { state: vec![1; REGISTER_BYTES], ..retried };
         assert_eq!(sent_again(&short, second), Ok(0));
-    }
-
-    #[test]
-    fn an_answer_that_was_never_met_is_told() {
-        let mut tally = Tally::default();
-        (0..4).for_each(|refusal| tally.count(REFUSED + 1 + refusal));
-        assert_eq!(tally.needs(&ANSWERS[..4], "steps"), Ok(()));
-        assert!(tally.needs(&ANSWERS, "steps").unwrap_err().contains("of the steps none was answered refused 8"));
     }
 }

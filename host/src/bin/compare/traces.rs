@@ -1,182 +1,529 @@
-//! Trace files, sound and damaged: this crate's reader and the trace program against the reference's text.
-use crate::case::Case;
-use amx::{REGISTER_BYTES, Record, State, Trace, random::Random, reference};
+//! Trace files of two sections and of three, sound and damaged: this crate's reader and the trace program against the reference's text.
+use crate::case::{Case, second};
+use crate::sent::{draw_count, draw_state, set_count};
+use crate::tally::Tally;
+use amx::{Call, Checkpoint, REGISTER_BYTES, Record, STATE_LENGTH, State, Trace, random::Random, reference};
 use std::{fs, io, path::Path, path::PathBuf, process::Command};
+
+/// What a program prints for a file.
+pub type Text<'a> = &'a dyn Fn(&[u8]) -> String;
+
+/// What is made of a case: a file of two sections, or one of three that goes on from a checkpoint; and its damage.
+#[derive(Clone, Debug)]
+struct Form {
+    checkpoint: Option<(Place, Saved)>,
+    damage: Damage,
+}
+
+/// Where a run is stopped.
+#[derive(Clone, Copy, Debug)]
+pub enum Place {
+    Start,
+    End,
+    /// After this many steps, modulo one more than there are.
+    Steps(u64),
+}
+
+/// The state that a checkpoint holds.
+#[derive(Clone, Copy, Debug)]
+enum Saved {
+    /// The run's.
+    Run,
+    /// The run's, at another count.
+    Count(u64),
+    /// Another, drawn by this seed.
+    Other(u64),
+}
 
 /// What is done to a sound file.
 #[derive(Clone, Debug)]
 enum Damage {
     None,
     Cut(usize),
+    Shorter(usize),
     Longer(usize),
     /// A byte of the table, turned.
     Table(usize, u8),
     /// A padding byte of a record, by part of the number of records.
     Padding(u64, usize, u8),
+    /// So many more steps consumed than there are.
+    Consumed(u32),
     /// Records past the most that a trace holds.
     TooMany,
     Both(Box<Damage>, Box<Damage>),
 }
 
-impl Damage {
+impl Place {
     fn draw(random: &mut Random) -> Self {
-        match random.below(10) {
-            0..=2 => Damage::None,
-            3 => Damage::Cut(random.pick(&[0, 1, 27, 28, 29, 5_147, 5_148, 5_149, 5_163, 5_164])),
-            4 => Damage::Cut(random.below(6_000) as usize),
-            5 => Damage::Longer(random.pick(&[1, 15, 16, 17, 160])),
-            6 => Damage::Table(random.below(28) as usize, 1 << random.below(8)),
-            7 => Damage::Padding(random.bits(), random.below(6) as usize, 1 << random.below(8)),
-            8 => Damage::TooMany,
-            _ => Damage::Both(Box::new(Damage::draw(random)), Box::new(Damage::draw(random))),
+        match random.below(4) {
+            0 => Place::Start,
+            1 => Place::End,
+            _ => Place::Steps(random.bits()),
         }
     }
 
-    fn apply(&self, file: &mut Vec<u8>) {
+    /// The steps consumed of so many.
+    pub fn of(self, steps: usize) -> usize {
+        match self {
+            Place::Start => 0,
+            Place::End => steps,
+            Place::Steps(n) => (n % (steps as u64 + 1)) as usize,
+        }
+    }
+}
+
+impl Saved {
+    fn draw(random: &mut Random) -> Self {
+        match random.below(4) {
+            0 => Saved::Count(u64::MAX - random.below(3)),
+            1 => Saved::Other(random.bits()),
+            _ => Saved::Run,
+        }
+    }
+
+    /// The state to go on from after the first records of a trace, by the reference.
+    fn state(self, trace: &Trace, consumed: usize) -> State {
+        let first = trace.records()[..consumed].iter().map(|&record| record.into());
+        let mut state = Case::due(trace.start().bytes().to_vec(), first).run(second).state;
+        match self {
+            Saved::Run => {}
+            Saved::Count(count) => set_count(&mut state, count),
+            Saved::Other(seed) => {
+                let mut random = Random::new(seed);
+                let count = draw_count(&mut random, 24);
+                state = draw_state(&mut random, STATE_LENGTH, count);
+            }
+        }
+        State::from_bytes(state.try_into().expect("steps leave a state's length"))
+    }
+}
+
+/// Where the records of a file of so many sections begin.
+fn records_at(sections: usize) -> usize {
+    4 + 12 * sections + REGISTER_BYTES
+}
+
+/// Writes a u32 into a file, where it is that long.
+fn put(file: &mut [u8], at: usize, number: usize) {
+    if let Some(bytes) = file.get_mut(at..at + 4) {
+        bytes.copy_from_slice(&(number as u32).to_le_bytes());
+    }
+}
+
+impl Damage {
+    fn draw(random: &mut Random) -> Self {
+        match random.below(12) {
+            0..=2 => Damage::None,
+            3 => Damage::Cut(random.pick(&CUTS)),
+            4 => Damage::Cut(random.below(12_000) as usize),
+            5 => Damage::Shorter(random.pick(&SHORTER)),
+            6 => Damage::Longer(random.pick(&LONGER)),
+            7 => Damage::Table(random.below(40) as usize, 1 << random.below(8)),
+            8 => Damage::Padding(random.bits(), random.below(6) as usize, 1 << random.below(8)),
+            9 => Damage::Consumed(1 + (random.bits() as u32 >> random.below(32)) / 2),
+            10 => Damage::TooMany,
+            _ => Damage::both(Damage::draw(random), Damage::draw(random)),
+        }
+    }
+
+    fn both(first: Damage, then: Damage) -> Self {
+        Damage::Both(Box::new(first), Box::new(then))
+    }
+
+    /// Each kind of damage, at each of its places.
+    fn every() -> Vec<Self> {
+        let table = (0..40).flat_map(|at| [1, 0x80].map(|turned| Damage::Table(at, turned)));
+        // tables that are as long as two entries and not as three, by other counts of sections too
+        let counts = (27..42).flat_map(|length| [1, 2, 4, 7].map(|turned| Damage::both(Damage::Cut(length), Damage::Table(0, turned))));
+        // of records that are consumed and of others, the last one too
+        let padding = [0, 1, 2, 6].into_iter().flat_map(|record| (0..6).map(move |at| Damage::Padding(record, at, 1 << at)));
+        let consumed = [1, 2, 253, 256, 1 << 16, 1 << 31, u32::MAX - 3];
+        let lengths = CUTS.map(Damage::Cut).into_iter().chain(SHORTER.map(Damage::Shorter)).chain(LONGER.map(Damage::Longer));
+        let mut every: Vec<Damage> = [Damage::None, Damage::TooMany].into_iter().chain(lengths).chain(table).chain(counts).collect();
+        every.extend(padding.chain(consumed.map(Damage::Consumed)));
+        // refused for its padding only where nothing comes before
+        for before in [Damage::Consumed(1), Damage::Shorter(1), Damage::Longer(1), Damage::Table(4, 1), Damage::Cut(20)] {
+            every.extend([0, 6].map(|record| Damage::both(Damage::Padding(record, 5, 1), before.clone())));
+        }
+        every
+    }
+
+    /// Damages a file that was of so many sections and records.
+    fn apply(&self, file: &mut Vec<u8>, sections: usize, records: usize) {
+        let end = records_at(sections) + 16 * records;
         match *self {
             Damage::None => {}
             Damage::Cut(length) => file.truncate(length),
+            Damage::Shorter(less) => file.truncate(file.len().saturating_sub(less)),
             Damage::Longer(more) => file.extend(vec![0; more]),
-            Damage::Table(at, turned) => file.iter_mut().skip(at).take(1).for_each(|byte| *byte ^= turned),
-            Damage::Padding(part, at, turned) => {
-                let records = file.len().saturating_sub(5_148) / 16;
-                if records > 0 {
-                    file[5_148 + 16 * (part as usize % records) + 2 + at] ^= turned;
-                }
+            Damage::Table(at, turned) => file.iter_mut().take(4 + 12 * sections).skip(at).take(1).for_each(|byte| *byte ^= turned),
+            Damage::Padding(part, at, turned) if records > 0 => {
+                let record = records_at(sections) + 16 * (part % records as u64) as usize;
+                file.iter_mut().skip(record + 2 + at).take(1).for_each(|byte| *byte ^= turned);
             }
+            Damage::Padding(..) => {}
+            Damage::Consumed(more) if sections == 3 => put(file, end, (records as u32).saturating_add(more) as usize),
+            Damage::Consumed(_) => {}
             Damage::TooMany => {
-                if let Some(length) = file.get_mut(24..28) {
-                    length.copy_from_slice(&(16u32 * 2_049).to_le_bytes());
-                    file.resize(5_148 + 16 * 2_049, 0);
+                let more = 16 * (2_049 - records);
+                put(file, 24, 16 * 2_049);
+                if sections == 3 {
+                    put(file, 32, end + more);
+                }
+                if file.len() >= end {
+                    file.splice(end..end, vec![0; more]);
                 }
             }
             Damage::Both(ref first, ref then) => {
-                first.apply(file);
-                then.apply(file);
+                first.apply(file, sections, records);
+                then.apply(file, sections, records);
             }
         }
     }
 }
 
-fn file_of(case: &Case, damage: &Damage) -> Vec<u8> {
+const CUTS: [usize; 22] =
+    [0, 1, 3, 4, 27, 28, 29, 38, 39, 40, 41, 5_147, 5_148, 5_149, 5_159, 5_160, 5_161, 5_163, 5_164, 5_176, 10_291, 10_292];
+const SHORTER: [usize; 6] = [1, 8, 16, 5_128, 5_131, 5_132];
+const LONGER: [usize; 6] = [1, 12, 15, 16, 17, 5_132];
+
+/// The trace of a case, from its registers.
+pub fn trace_of(case: &Case) -> Trace {
     let mut start = State::new();
     start.registers_mut().copy_from_slice(&case.state[..REGISTER_BYTES]);
     let mut trace = Trace::new(start);
     for call in case.sent.iter().map(|sent| sent.call) {
-        // a record holds bytes: the low ones of odd numbers are as odd
-        let record = Record { instruction: call.instruction as u8, generation: call.generation as u8, operand: call.operand };
-        trace.push(record).expect("no more records are drawn");
+        trace.push(Record::try_from(call).expect("calls of a trace are records")).expect("no more records are drawn");
+    }
+    trace
+}
+
+fn file_of(case: &Case, form: &Form) -> Vec<u8> {
+    let mut trace = trace_of(case);
+    let records = trace.records().len();
+    if let Some((place, saved)) = form.checkpoint {
+        let consumed = place.of(records);
+        let state = saved.state(&trace, consumed);
+        trace.set_checkpoint(Checkpoint { consumed, state }).expect("a place is among the records");
     }
     let mut file = trace.to_bytes();
-    damage.apply(&mut file);
+    form.damage.apply(&mut file, if form.checkpoint.is_some() { 3 } else { 2 }, records);
     file
 }
 
-fn draw(random: &mut Random) -> (Case, Damage) {
+/// A trace's start and calls.
+pub fn draw_case(random: &mut Random) -> Case {
     let records = match random.below(16) {
         0 => 0,
         1 => 2_048,
         _ => random.below(24),
     };
     let state = random.state().bytes().to_vec();
-    (Case::due(state, (0..records).map(|_| random.call())), Damage::draw(random))
+    Case::due(state, (0..records).map(|_| random.record().into()))
+}
+
+/// A call of each answer that a step of a trace can have at first: done, refused 4, no-op 1, 2 and 3, refused 2 and 3.
+pub fn every_answer(random: &mut Random) -> Case {
+    let vecint = |operand| Call::new(18, 1, operand);
+    let calls = [Call::new(14, 1, 1 << 63), vecint(1 << 27), vecint(1 << 54), vecint(7 << 47), vecint(10 << 47)];
+    Case::due(random.state().bytes().to_vec(), calls.into_iter().chain([Call::new(14, 3, 0), Call::new(15, 1, 0)]))
+}
+
+/// Every damage to a file of such calls, of two sections and of three; checkpoints at the ends, of other states and of the last counts;
+/// then so many random files.
+fn draw_files(random: &mut Random, files: u64) -> impl Iterator<Item = (Case, Form)> {
+    let case = every_answer(random);
+    let damaged = |checkpoint| Damage::every().into_iter().map(move |damage| Form { checkpoint, damage });
+    let mut forms: Vec<Form> = damaged(None).chain(damaged(Some((Place::Steps(2), Saved::Run)))).collect();
+    for saved in [Saved::Run, Saved::Count(u64::MAX), Saved::Count(u64::MAX - 1), Saved::Other(random.bits())] {
+        let places = [Place::Start, Place::Steps(5), Place::End];
+        forms.extend(places.map(|place| Form { checkpoint: Some((place, saved)), damage: Damage::None }));
+    }
+    let drawn = (0..files).map(move |_| {
+        let checkpoint = random.once_in(2).then(|| (Place::draw(random), Saved::draw(random)));
+        (draw_case(random), Form { checkpoint, damage: Damage::draw(random) })
+    });
+    forms.into_iter().map(move |form| (case.clone(), form)).chain(drawn)
 }
 
 /// The text of a file by this crate's reader and the proved step.
-fn read_text(file: &[u8]) -> String {
+pub fn read_text(file: &[u8]) -> String {
     match Trace::from_bytes(file) {
         Ok(trace) => trace.text(),
         Err(refusal) => format!("{refusal}\n"),
     }
 }
 
-/// The count that a run ends at, where a file is accepted.
-fn end_count(file: &[u8]) -> Option<u64> {
-    Trace::from_bytes(file).ok().map(|trace| trace.run().0.count())
+/// The same, and the count that the run ends at.
+fn read_count(file: &[u8]) -> String {
+    let end = Trace::from_bytes(file).map(|trace| format!("count {}\n", trace.run().0.count()));
+    read_text(file) + &end.unwrap_or_default()
 }
 
-/// The steps of a text that raise the count: those that are not refused.
-fn taken(text: &str) -> Option<u64> {
-    let steps = text.lines().filter(|line| line.starts_with("step ") && !line.contains("refused"));
-    (!text.starts_with("file refused")).then(|| steps.count() as u64)
-}
-
-/// Compares texts with the reference's; an error is the report of the smallest case found.
-fn same_text(what: &str, case: Case, damage: &Damage, text: &dyn Fn(&[u8]) -> String) -> Result<(), String> {
-    let differs = |case: &Case| {
-        let file = file_of(case, damage);
-        text(&file) != reference::trace(&file)
-    };
-    if !differs(&case) {
-        return Ok(());
+/// The reference's text, and the count that its steps raise: that of the checkpoint, or else 0.
+fn reference_count(file: &[u8]) -> String {
+    let text = reference::trace(file);
+    if text.starts_with("file refused") {
+        return text;
     }
+    let before = if file[0] == 3 { file.last_chunk().map_or(0, |count| u64::from_le_bytes(*count)) } else { 0 };
+    let taken = text.lines().filter(|line| line.starts_with("step ") && !line.contains("refused")).count() as u64;
+    format!("{text}count {}\n", before.wrapping_add(taken))
+}
+
+/// Compares a program's text of a file with what the reference says, and gives it; an error is the report of the smallest case found.
+fn same_text(what: &str, case: Case, form: &Form, text: Text, expected: Text) -> Result<String, String> {
+    let both = |case: &Case| {
+        let file = file_of(case, form);
+        (text(&file), expected(&file))
+    };
+    let (given, same) = both(&case);
+    if given == same {
+        return Ok(same);
+    }
+    let differs = |case: &Case| {
+        let (given, same) = both(case);
+        given != same
+    };
     let smallest = case.shrink(&differs);
-    let file = file_of(&smallest, damage);
-    let (given, expected) = (text(&file), reference::trace(&file));
-    let line = given.lines().zip(expected.lines()).take_while(|(a, b)| a == b).count();
-    let nth = |text: &str| text.lines().nth(line).unwrap_or("(no such line)").to_owned();
-    Err(format!(
-        "{what} and the reference differ on a trace file ({damage:?}); the smallest found:\n{}\n  line {line}: {}\n  reference: {}\n",
-        smallest.describe(),
-        nth(&given),
-        nth(&expected)
-    ))
+    let (given, same) = both(&smallest);
+    let found = first_difference([what, "reference"], [&given, &same]);
+    Err(format!("{what} and the reference differ on a trace file ({form:?}); the smallest found:\n{}\n{found}", smallest.describe()))
+}
+
+/// The first line in which two texts differ.
+pub fn first_difference(names: [&str; 2], texts: [&str; 2]) -> String {
+    let [one, other] = texts;
+    let line = one.lines().zip(other.lines()).take_while(|(a, b)| a == b).count();
+    let [a, b] = texts.map(|text| text.lines().nth(line).unwrap_or("(no such line)"));
+    format!("  line {line}: {} {a}\n  line {line}: {} {b}\n", names[0], names[1])
+}
+
+/// What the files of either kind must have met, and the steps of those that are resumed.
+const NEEDED: [&str; 16] = [
+    "two sections: run",
+    "two sections: file refused 5",
+    "two sections: file refused 6",
+    "two sections: file refused 7",
+    "three sections: run",
+    "three sections: file refused 5",
+    "three sections: file refused 6",
+    "three sections: file refused 7",
+    "resumed step: done",
+    "resumed step: no-op 1",
+    "resumed step: no-op 2",
+    "resumed step: no-op 3",
+    "resumed step: refused 2",
+    "resumed step: refused 3",
+    "resumed step: refused 4",
+    "resumed step: refused 9",
+];
+
+fn tally_text(tally: &mut Tally, form: &Form, text: &str) {
+    let sections = if form.checkpoint.is_some() { "three sections" } else { "two sections" };
+    let refused = text.lines().next().filter(|line| line.starts_with("file refused"));
+    tally.meet(format!("{sections}: {}", refused.unwrap_or("run")));
+    if form.checkpoint.is_some() {
+        for line in text.lines() {
+            match line.split(' ').collect::<Vec<_>>().as_slice() {
+                ["step", _, "done", _] => tally.meet("resumed step: done".to_owned()),
+                ["step", _, answer, number] => tally.meet(format!("resumed step: {answer} {number}")),
+                _ => {}
+            }
+        }
+    }
+}
+
+/// A program on swept and random files: how many, and what they met.
+fn compare(random: &mut Random, files: u64, what: &str, text: Text, expected: Text) -> Result<(u64, Tally), String> {
+    let (mut count, mut tally) = (0, Tally::default());
+    for (case, form) in draw_files(random, files) {
+        let text = same_text(what, case, &form, text, expected)?;
+        tally_text(&mut tally, &form, &text);
+        count += 1;
+    }
+    tally.needs(&NEEDED, "trace files")?;
+    Ok((count, tally))
 }
 
 /// This crate's reader, on files in memory.
-pub fn reader(random: &mut Random, files: u64) -> Result<u64, String> {
-    for _ in 0..files {
-        let (case, damage) = draw(random);
-        let file = file_of(&case, &damage);
-        same_text("this crate's reader", case, &damage, &read_text)?;
-        let (count, taken) = (end_count(&file), taken(&reference::trace(&file)));
-        if count != taken {
-            return Err(format!("a run ends at count {count:?}, and by the reference's text {taken:?} steps were taken ({damage:?})\n"));
-        }
-    }
-    Ok(files)
+pub fn reader(random: &mut Random, files: u64) -> Result<(u64, Tally), String> {
+    compare(random, files, "this crate's reader", &read_count, &reference_count)
 }
 
-/// The trace program, on files of a directory that is removed afterwards.
-pub fn program(random: &mut Random, program: &Path, files: u64) -> Result<u64, String> {
-    let directory = Directory::new().map_err(|error| format!("a temporary directory: {error}"))?;
-    let path = directory.0.join("trace");
-    let text = |file: &[u8]| {
-        let ran = fs::write(&path, file).and_then(|()| Command::new(program).arg(&path).output());
+/// The trace program, and a directory for its files that is removed afterwards.
+pub struct Program<'a> {
+    program: &'a Path,
+    directory: PathBuf,
+}
+
+impl<'a> Program<'a> {
+    pub fn new(program: &'a Path) -> Result<Self, String> {
+        let directory = std::env::temp_dir().join(format!("amx-compare-{}", std::process::id()));
+        fs::create_dir_all(&directory).map_err(|error| format!("a temporary directory: {error}"))?;
+        Ok(Program { program, directory })
+    }
+
+    /// What it prints for a file.
+    pub fn text(&self, file: &[u8]) -> String {
+        let path = self.directory.join("trace");
+        let ran = fs::write(&path, file).and_then(|()| Command::new(self.program).arg(&path).output());
         match ran {
             Ok(output) => String::from_utf8_lossy(&output.stdout).into_owned(),
-            Err(error) => format!("{}: {error}", program.display()),
-        }
-    };
-    for _ in 0..files {
-        let (case, damage) = draw(random);
-        same_text("the trace program", case, &damage, &text)?;
-    }
-    // no file named, or one that isn't there: a message, and nothing on standard output
-    for arguments in [vec![], vec![directory.0.join("none")]] {
-        let output = Command::new(program).args(&arguments).output().map_err(|error| format!("{}: {error}", program.display()))?;
-        if !output.stdout.is_empty() || output.stderr.is_empty() {
-            return Err(format!(
-                "{} with {arguments:?} says nothing on standard error, or something on standard output\n",
-                program.display()
-            ));
+            Err(error) => self.error(error),
         }
     }
-    Ok(files)
-}
 
-struct Directory(PathBuf);
+    fn error(&self, error: io::Error) -> String {
+        format!("{}: {error}", self.program.display())
+    }
 
-impl Directory {
-    fn new() -> io::Result<Self> {
-        let path = std::env::temp_dir().join(format!("amx-compare-{}", std::process::id()));
-        fs::create_dir_all(&path)?;
-        Ok(Directory(path))
+    pub fn compare(&self, random: &mut Random, files: u64) -> Result<(u64, Tally), String> {
+        let compared = compare(random, files, "the trace program", &|file| self.text(file), &reference::trace)?;
+        // no file named, or one that isn't there: a message, and nothing on standard output
+        for arguments in [vec![], vec![self.directory.join("none")]] {
+            let output = Command::new(self.program).args(&arguments).output().map_err(|error| self.error(error))?;
+            if !output.stdout.is_empty() || output.stderr.is_empty() {
+                return Err(format!(
+                    "{} with {arguments:?} says nothing on standard error, or something on standard output\n",
+                    self.program.display()
+                ));
+            }
+        }
+        Ok(compared)
     }
 }
 
-impl Drop for Directory {
+impl Drop for Program<'_> {
     fn drop(&mut self) {
-        let _ = fs::remove_dir_all(&self.0);
+        let _ = fs::remove_dir_all(&self.directory);
+    }
+}
+
+#[cfg(test)]
+mod tests {
+    use super::*;
+
+    fn found(text: Text) -> String {
+        compare(&mut Random::new(1), 40, "it", text, &reference::trace).err().unwrap_or_default()
+    }
+
+    fn u32_at(file: &[u8], at: usize) -> usize {
+        file.get(at..at + 4).map_or(0, |bytes| u32::from_le_bytes([bytes[0], bytes[1], bytes[2], bytes[3]]) as usize)
+    }
+
+    /// The reference on a file whose third section is changed, where it has one: by the section's place, and the steps consumed.
+    fn changed(file: &[u8], change: impl Fn(&mut Vec<u8>, usize, usize)) -> String {
+        let mut file = file.to_vec();
+        let third = 5_160 + u32_at(&file, 24) / 16 * 16;
+        if file.first() == Some(&3) && file.len() >= third + 5_132 {
+            let consumed = u32_at(&file, third);
+            change(&mut file, third, consumed);
+        }
+        reference::trace(&file)
+    }
+
+    /// The reference's text of a file of three sections, line by line.
+    fn lines(file: &[u8], change: impl Fn(&str, usize) -> String) -> String {
+        let text = reference::trace(file);
+        match u32_at(file, 0) {
+            3 if text.ends_with(&format!("steps {}\n", u32_at(file, 24) / 16)) => {
+                let consumed = u32_at(file, 5_160 + u32_at(file, 24));
+                text.lines().map(|line| change(line, consumed)).collect()
+            }
+            _ => text,
+        }
+    }
+
+    fn set(at: usize, number: usize) -> impl Fn(&mut Vec<u8>, usize, usize) {
+        move |file, _, _| put(file, at, number)
+    }
+
+    #[test]
+    fn what_is_wrong_about_a_resumed_trace_is_found() {
+        let renumbered = |line: &str, consumed| match line.split(' ').collect::<Vec<_>>().as_slice() {
+            ["step", place, answer @ ..] => format!("step {} {}\n", place.parse::<usize>().unwrap() - consumed, answer.join(" ")),
+            _ => format!("{line}\n"),
+        };
+        let fewer = |line: &str, consumed| match line.strip_prefix("steps ") {
+            Some(steps) => format!("steps {}\n", steps.parse::<usize>().unwrap() - consumed),
+            None => format!("{line}\n"),
+        };
+        let rows_by_checkpoint = |file: &mut Vec<u8>, third, _| file.copy_within(third + 4..third + 4 + REGISTER_BYTES, 40);
+        let from_the_start = |file: &mut Vec<u8>, third, _| file.copy_within(40..40 + REGISTER_BYTES, third + 4);
+        let count_of_the_consumed = |file: &mut Vec<u8>, third, consumed: usize| {
+            let at = third + 4 + REGISTER_BYTES;
+            file[at..at + 8].copy_from_slice(&(consumed as u64).to_le_bytes());
+        };
+        let consumed_by_a_byte = |file: &mut Vec<u8>, third, consumed: usize| put(file, third, consumed % 256);
+        let above_is_the_end = |file: &mut Vec<u8>, third, consumed: usize| put(file, third, consumed.min((third - 5_160) / 16));
+        let padding_of_the_rest = |file: &mut Vec<u8>, third, consumed: usize| {
+            let records = &mut file[5_160..third];
+            records.chunks_exact_mut(16).take(consumed).for_each(|record| record[2..8].fill(0));
+        };
+        let no_end = |file: &mut Vec<u8>, third, _| file.truncate(third + 5_132);
+        let offset_unread = |file: &mut Vec<u8>, third, _| put(file, 32, third);
+        for (name, wrong) in [
+            ("step numbers from 0", &(|file: &[u8]| lines(file, renumbered)) as Text),
+            ("the steps left", &|file| lines(file, fewer)),
+            ("rows that differ from the checkpoint", &|file| changed(file, rows_by_checkpoint)),
+            ("registers of the start", &|file| changed(file, from_the_start)),
+            ("count of the steps consumed", &|file| changed(file, count_of_the_consumed)),
+            ("a byte of what is consumed", &|file| changed(file, consumed_by_a_byte)),
+            ("consumed above n", &|file| changed(file, above_is_the_end)),
+            ("padding of the rest alone", &|file| changed(file, padding_of_the_rest)),
+            ("bytes behind the end", &|file| changed(file, no_end)),
+            ("the third kind", &|file| changed(file, |file, _, _| file[28..30].copy_from_slice(&[3, 0]))),
+            ("the third zero", &|file| changed(file, |file, _, _| file[30..32].fill(0))),
+            ("the third offset", &|file| changed(file, offset_unread)),
+            ("the third length", &|file| changed(file, set(36, 5_132))),
+            ("three sections in 28 bytes", &|file| {
+                let short = (28..40).contains(&file.len()) && file[0] == 3;
+                if short { "file refused 6\n".to_owned() } else { reference::trace(file) }
+            }),
+            ("other counts in 39 bytes", &|file| {
+                let short = (28..40).contains(&file.len()) && file[0] > 3;
+                if short { "file refused 5\n".to_owned() } else { reference::trace(file) }
+            }),
+            ("stops at refused 9", &|file| {
+                let mut ended = false;
+                reference::trace(file)
+                    .split_inclusive('\n')
+                    .filter(|line| {
+                        let left = ended && line.starts_with("step ");
+                        ended |= line.ends_with("refused 9\n");
+                        !left
+                    })
+                    .collect()
+            }),
+        ] {
+            assert!(found(wrong).starts_with("it and the reference differ on a trace file"), "{name}: {}", found(wrong));
+        }
+        assert_eq!(found(&reference::trace), "");
+    }
+
+    #[test]
+    fn padding_is_tested_after_what_is_consumed() {
+        let report = found(&|file| {
+            let padding = |file: &mut Vec<u8>, third, consumed: usize| put(file, third, consumed.min((third - 5_160) / 16));
+            match (reference::trace(file).as_str(), changed(file, padding)) {
+                ("file refused 6\n", text) if text == "file refused 7\n" => text,
+                (text, _) => text.to_owned(),
+            }
+        });
+        assert!(report.contains("it file refused 7") && report.contains("reference file refused 6"), "{report}");
+    }
+
+    #[test]
+    fn a_kind_that_was_never_met_is_told() {
+        let mut tally = Tally::default();
+        let form = Form { checkpoint: Some((Place::Start, Saved::Run)), damage: Damage::None };
+        tally_text(&mut tally, &form, "step 3 done 64\nstep 4 refused 9\nsteps 5\n");
+        tally_text(&mut tally, &form, "file refused 7\n");
+        assert_eq!(
+            tally.text(),
+            "resumed step: done: 1, resumed step: refused 9: 1, three sections: file refused 7: 1, three sections: run: 1"
+        );
+        assert!(tally.needs(&NEEDED, "trace files").unwrap_err().contains("none met two sections: run"));
     }
 }

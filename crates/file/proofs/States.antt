@@ -1,0 +1,110 @@
+-- The starting state and the saved one, loaded; and a checkpoint stored; by the branches of the code.
+-- Assumes nothing.
+use mathlib.Core.Path.{_≡_, sym, ap, _∙_}
+use mathlib.Core.Bool.{Bool, true, false, _&&_}
+use mathlib.Core.List.{List, _++_}
+use Prim.Native.Nat.{ℕ, _+_, _^_, _≤_, _<_}
+use native.Mathlib.Omega.{arith}
+use borrow.Author.Tests.{lt-ltb, le-ltb, eq-eqb, ne-eqb, le-leb, lt-leb}
+use lib.Dec.{eqb, leb}
+use lib.ListN.{length}
+use lib.Seq.{sets}
+use Rattle.number.specs.Bytes.{bytesOf, byteOf}
+use Rattle.number.proofs.Tests.{pick-true, pick-false, either}
+use Rattle.number.proofs.Bytes.{length-table}
+use Rattle.number.proofs.Slice.{sets-append}
+use Rattle.isa.specs.State.{registerBytes, stateLength, countOf}
+use Rattle.isa.proofs.Registers.{length-state, count-state}
+use Rattle.file.specs.File.{bytesFrom, hasCheckpoint, checkpointLength, contentsLength, stepsEnd, registersIn, startOf, savedIn, resumedFrom}
+use Rattle.file.specs.File.{loadedFrom, storable, checkpointIn, storedBytes}
+use Rattle.file.proofs.Parts.{length-from, whole-from, sets-whole}
+use Rattle.file.proofs.Contents.{length-two}
+
+-- two pieces stored from the front on
+joined : (s xs ys : List ℕ) (n : ℕ) → length xs ≡ n → sets (sets s 0 xs) n ys ≡ sets s 0 (xs ++ ys)
+joined s xs ys n e =
+    let place : n ≡ 0 + length xs = omega (arith, e) in
+    ap (λ (k : ℕ). sets (sets s 0 xs) k ys) place ∙ sym (sets-append s 0 xs ys)
+
+-- ---- the states of a file
+
+module _ (file : List ℕ) where
+  length-in : length (registersIn file) ≡ registerBytes
+  length-in = length-from file (contentsLength file) registerBytes
+
+  pub length-start : length (startOf file) ≡ stateLength
+  length-start = length-state (registersIn file) 0 length-in
+
+  pub count-start : countOf (startOf file) ≡ 0
+  count-start = count-state (registersIn file) 0 length-in
+
+  length-saved : length (savedIn file) ≡ stateLength
+  length-saved = length-from file (stepsEnd file + 4) stateLength
+
+  pub length-resumed : length (resumedFrom file) ≡ stateLength
+  length-resumed = either (λ (s : List ℕ). length s ≡ stateLength) (hasCheckpoint file) length-saved length-start
+
+  pub resumed-saved : hasCheckpoint file ≡ true → resumedFrom file ≡ savedIn file
+  resumed-saved = pick-true _ _
+
+  pub resumed-start : hasCheckpoint file ≡ false → resumedFrom file ≡ startOf file
+  resumed-start = pick-false _ _
+
+-- ---- loading
+
+module _ (file state : List ℕ) where
+  pub load-other : (length state ≡ stateLength → ⊥) → state ≡ loadedFrom file state
+  load-other f = sym (pick-false _ _ (ne-eqb (length state) stateLength f))
+
+  pub load-whole : length state ≡ stateLength → resumedFrom file ≡ loadedFrom file state
+  load-whole e = sym (pick-true _ _ (eq-eqb (length state) stateLength e))
+
+  pub load-saved : length state ≡ stateLength → hasCheckpoint file ≡ true → (p : ℕ) → p ≡ stepsEnd file
+      → sets state 0 (bytesFrom file (p + 4) 5128) ≡ loadedFrom file state
+  load-saved e b p f =
+      ap (λ (q : ℕ). sets state 0 (bytesFrom file (q + 4) 5128)) f
+      ∙ sets-whole (savedIn file) state (length-saved file ∙ sym e) ∙ sym (resumed-saved file b) ∙ load-whole e
+
+  -- the registers, and then a count of 0
+  pub load-start : length state ≡ stateLength → hasCheckpoint file ≡ false
+      → sets (sets state 0 (bytesFrom file 28 5120)) 5120 (bytesOf 8 0) ≡ loadedFrom file state
+  load-start e b =
+      ap (λ (p : ℕ). sets (sets state 0 (bytesFrom file p 5120)) 5120 (bytesOf 8 0)) (sym (length-two file b))
+      ∙ joined state (registersIn file) (bytesOf 8 0) 5120 (length-in file)
+      ∙ sets-whole (startOf file) state (length-start file ∙ sym e) ∙ sym (resumed-start file b) ∙ load-whole e
+
+-- ---- storing a checkpoint
+
+module _ (out state : List ℕ) (consumed : ℕ) where
+  abbrev Stores : List ℕ → ℕ → Type 0
+  Stores out′ r = (out′ ≡ checkpointIn out consumed state) × (r ≡ storedBytes out consumed state)
+
+  abbrev whole : Bool
+  whole = eqb (length state) stateLength
+
+  abbrev held : Bool
+  held = leb checkpointLength (length out)
+
+  none : storable consumed state out ≡ false → Stores out 0
+  none e = (sym (pick-false _ _ e), sym (pick-false _ _ e))
+
+  pub store-large : 2 ^ 32 ≤ consumed → Stores out 0
+  store-large h = none (λ t. le-ltb consumed (2 ^ 32) h t && whole && held)
+
+  pub store-other : consumed < 2 ^ 32 → (length state ≡ stateLength → ⊥) → Stores out 0
+  store-other h f = none (λ t. lt-ltb consumed (2 ^ 32) h t && ne-eqb (length state) stateLength f t && held)
+
+  pub store-short : consumed < 2 ^ 32 → length state ≡ stateLength → length out < checkpointLength → Stores out 0
+  store-short h e l =
+      none (λ t. lt-ltb consumed (2 ^ 32) h t && eq-eqb (length state) stateLength e t && lt-leb checkpointLength (length out) l t)
+
+  pub store-whole : consumed < 2 ^ 32 → length state ≡ stateLength → checkpointLength ≤ length out
+      → Stores (sets (sets out 0 (bytesOf 4 consumed)) 4 (bytesFrom state 0 5128)) 5132
+  store-whole h e l =
+      let yes : storable consumed state out ≡ true =
+      (λ t. lt-ltb consumed (2 ^ 32) h t && eq-eqb (length state) stateLength e t && le-leb checkpointLength (length out) l t)
+      in (
+        ap (sets (sets out 0 (bytesOf 4 consumed)) 4) (whole-from state 5128 e)
+            ∙ joined out (bytesOf 4 consumed) state 4 (length-table (byteOf consumed) 0 4) ∙ sym (pick-true _ _ yes),
+        sym (pick-true _ _ yes),
+      )

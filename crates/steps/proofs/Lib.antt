@@ -1,0 +1,5 @@
+pub mod Joined
+pub mod Short
+pub mod Branches
+pub mod Turns
+pub mod Again
