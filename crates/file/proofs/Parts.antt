@@ -10,7 +10,7 @@ use lib.Seq.{sets, sets-eq, take-all, getD-take, getD-drop, length-take-le}
 use Rattle.number.specs.Bytes.{byteAt, table}
 use Rattle.number.proofs.Bytes.{length-table, getD-table, table-more}
 use Rattle.number.proofs.Fill.{fill-all}
-use Rattle.number.proofs.Slice.{sets-append}
+use Rattle.number.proofs.Slice.{sets-joined}
 use Rattle.file.specs.File.{bytesFrom}
 
 module _ (s : List ℕ) where
@@ -43,9 +43,7 @@ module _ (s : List ℕ) where
   pub copy-more : (out₀ out out′ : List ℕ) (p at n b : ℕ) → out ≡ sets out₀ at (bytesFrom s p n) → b ≡ byteAt s (p + n)
       → out′ ≡ set out (at + n) b → out′ ≡ sets out₀ at (bytesFrom s p (n + 1))
   copy-more out₀ out out′ p at n b e byte f =
-      let front : n ≡ length (bytesFrom s p n) = sym (length-from p n) in
-      f ∙ (λ i. sets (e i) (at + front i) (byte i ∷ []))
-      ∙ sym (sets-append out₀ at (bytesFrom s p n) (byteAt s (p + n) ∷ []))
+      sets-joined out₀ out out′ at n (bytesFrom s p n) (byteAt s (p + n) ∷ []) (length-from p n) e (f ∙ ap (set out (at + n)) byte)
       ∙ ap (sets out₀ at) (sym (table-more (λ k. byteAt s (p + k)) n))
 
 -- bytes stored over a whole list

@@ -1,10 +1,10 @@
 -- The starting state and the saved one, loaded; and a checkpoint stored; by the branches of the code.
 -- Assumes nothing.
-use mathlib.Core.Path.{_≡_, sym, ap, _∙_}
+use mathlib.Core.Path.{_≡_, refl, sym, ap, _∙_}
 use mathlib.Core.Bool.{Bool, true, false, _&&_}
 use mathlib.Core.List.{List, _++_}
 use Prim.Native.Nat.{ℕ, _+_, _^_, _≤_, _<_}
-use native.Mathlib.Omega.{arith}
+use native.Mathlib.Nat.{zero-add}
 use borrow.Author.Tests.{lt-ltb, le-ltb, eq-eqb, ne-eqb, le-leb, lt-leb}
 use lib.Dec.{eqb, leb}
 use lib.ListN.{length}
@@ -12,7 +12,7 @@ use lib.Seq.{sets}
 use Rattle.number.specs.Bytes.{bytesOf, byteOf}
 use Rattle.number.proofs.Tests.{pick-true, pick-false, either}
 use Rattle.number.proofs.Bytes.{length-table}
-use Rattle.number.proofs.Slice.{sets-append}
+use Rattle.number.proofs.Slice.{sets-joined}
 use Rattle.isa.specs.State.{registerBytes, stateLength, countOf}
 use Rattle.isa.proofs.Registers.{length-state, count-state}
 use Rattle.file.specs.File.{bytesFrom, hasCheckpoint, checkpointLength, contentsLength, stepsEnd, registersIn, startOf, savedIn, resumedFrom}
@@ -22,9 +22,7 @@ use Rattle.file.proofs.Contents.{length-two}
 
 -- two pieces stored from the front on
 joined : (s xs ys : List ℕ) (n : ℕ) → length xs ≡ n → sets (sets s 0 xs) n ys ≡ sets s 0 (xs ++ ys)
-joined s xs ys n e =
-    let place : n ≡ 0 + length xs = omega (arith, e) in
-    ap (λ (k : ℕ). sets (sets s 0 xs) k ys) place ∙ sym (sets-append s 0 xs ys)
+joined s xs ys n e = sets-joined s (sets s 0 xs) _ 0 n xs ys e refl (ap (λ (k : ℕ). sets (sets s 0 xs) k ys) (sym (zero-add n)))
 
 -- ---- the states of a file
 

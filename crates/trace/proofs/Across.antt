@@ -19,17 +19,17 @@ use Rattle.isa.proofs.Registers.{length-state, count-state}
 use Rattle.isa.proofs.Step.{own-due, stepped-length, count-to}
 use Rattle.isa.proofs.Guards as Guards
 use Rattle.isa.proofs.Serials.{retry-refused}
-use Rattle.trace.specs.Resume.{idle, CutKept}
+use Rattle.trace.specs.Resume.{noOp, NoSwapAcross}
 
-own-idle : ownAnswer idle ≡ NoOp ReservedBits
+own-no-op : ownAnswer noOp ≡ NoOp ReservedBits
 unfolding ownAnswer bits
-own-idle = refl
+own-no-op = refl
 
-pub cut-kept : CutKept
-cut-kept registers size = record {
-  allowed = ((λ e. omega (arith, counted)), inl (Guards.idle s sum idle whole room (ap isDone own-idle)));
+pub no-swap-across : NoSwapAcross
+no-swap-across registers size = record {
+  allowed = ((λ e. omega (arith, counted)), inl (Guards.idle s sum noOp whole room (ap isDone own-no-op)));
   outside = λ e. e;
-  resumed = ap (λ (a : Answer). a ∷ []) (due idle ∙ own-idle);
+  resumed = ap (λ (a : Answer). a ∷ []) (due noOp ∙ own-no-op);
   swapped = ap (λ (a : Answer). a ∷ []) (due sum ∙ sym (own-due sum s whole room) ∙ done);
 }
   where

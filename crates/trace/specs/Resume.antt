@@ -69,22 +69,22 @@ EveryCut =
 -- ---- "a swap across the cut would run one step twice and another never"
 
 -- a step that does nothing but raise the count
-abbrev pub idle : Call
-idle = call 18 1 (2 ^ 54)
+abbrev pub noOp : Call
+noOp = call 18 1 (2 ^ 54)
 
 -- two steps that may be swapped, on any registers, in a run that is stopped between them
 abbrev pub pair : List Call
-pair = sum ∷ idle ∷ []
+pair = sum ∷ noOp ∷ []
 
 abbrev pub between : List ℕ → List ℕ
 between registers = run (take 1 pair) (stateOf registers 0)
 
 -- one step remains, so that demand 3's list has no such swap; made all the same, the sum is run again and the other step never
 pub record Across (registers : List ℕ) : Type 0 where
-  pub allowed : MaySwap (stateOf registers 0) sum idle
+  pub allowed : MaySwap (stateOf registers 0) sum noOp
   pub outside : MaySwapAt (between registers) 0 (drop 1 pair) → ⊥
   pub resumed : answers (drop 1 pair) (between registers) ≡ NoOp ReservedBits ∷ []
   pub swapped : answers (drop 1 (swapAt 0 pair)) (between registers) ≡ Done 64 ∷ []
 
-abbrev pub CutKept : Type 0
-CutKept = (registers : List ℕ) → length registers ≡ registerBytes → Across registers
+abbrev pub NoSwapAcross : Type 0
+NoSwapAcross = (registers : List ℕ) → length registers ≡ registerBytes → Across registers

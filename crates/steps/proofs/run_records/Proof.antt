@@ -464,7 +464,8 @@ module _ {M : Type 1} (𝓤 : URA M) (H : Heap 𝓤) (A : Atoms 𝓤) (W : Given
         assigns-last ! (bin ! (load ! (from ! (stop !)) (look ! 27 refl)) (lit ! tt) (record { fits = fits less })) (from ! (stop !))
         (store ! 27 refl (tt, record { fits = fits less })) $
         forget ! 9 refl $ forget ! 11 refl $ forget ! 13 refl $ forget ! 15 refl $ forget ! 17 refl $ forget ! 19 refl $ forget ! 25 refl $
-        keep ! (9 ∷ 10 ∷ 11 ∷ 12 ∷ 13 ∷ 14 ∷ 15 ∷ 16 ∷ 17 ∷ 18 ∷ 19 ∷ 20 ∷ 21 ∷ 22 ∷ 23 ∷ 24 ∷ 25 ∷ 26 ∷ 27 ∷ 28 ∷ 29 ∷ 30 ∷ 6 ∷ 31 ∷ 32 ∷ 33 ∷ 34 ∷ 35
+        keep ! (9 ∷ 10 ∷ 11 ∷ 12 ∷ 13 ∷ 14 ∷ 15 ∷ 16 ∷ 17 ∷ 18 ∷ 19 ∷
+        20 ∷ 21 ∷ 22 ∷ 23 ∷ 24 ∷ 25 ∷ 26 ∷ 27 ∷ 28 ∷ 29 ∷ 30 ∷ 6 ∷ 31 ∷ 32 ∷ 33 ∷ 34 ∷ 35
         ∷ 36 ∷ 37 ∷ 38 ∷ 39 ∷ 40 ∷ 41 ∷ 42 ∷ 43 ∷ 8 ∷ 4 ∷ 1 ∷ 44 ∷ 7 ∷ 3 ∷ 0 ∷ []) $
         again ! Nearer At u
         (i + 1, (zs′ .0, (zs′ .1 .0, (r, (add-one-le (under less), ran-more (now s) ys₀ os₀ f i n (under less) most ran st (e₁ .0) e₂ short)))))
@@ -543,7 +544,8 @@ module _ {M : Type 1} (𝓤 : URA M) (H : Heap 𝓤) (A : Atoms 𝓤) (W : Given
         assigns ! (of-opd ! (lit ! tt)) (from ! (stop !)) (init ! 23 refl (tt, record { fits = lit< tt })) $
         assigns ! (of-opd ! (lit ! tt)) (from ! (stop !)) (init ! 21 refl (tt, record { fits = lit< tt })) $
         forget ! 15 refl $ forget ! 17 refl $ move ! (1 ∷ []) $ split ! $
-        keep ! (4 ∷ 5 ∷ 6 ∷ 7 ∷ 8 ∷ 9 ∷ 10 ∷ 11 ∷ 12 ∷ 13 ∷ 14 ∷ 15 ∷ 16 ∷ 17 ∷ 18 ∷ 19 ∷ 20 ∷ 21 ∷ 22 ∷ 23 ∷ 24 ∷ 25 ∷ 26 ∷ 27 ∷ 28 ∷ 29 ∷ 30 ∷ 31 ∷ 32
+        keep ! (4 ∷ 5 ∷ 6 ∷ 7 ∷ 8 ∷ 9 ∷ 10 ∷ 11 ∷ 12 ∷ 13 ∷ 14 ∷ 15 ∷ 16 ∷ 17 ∷ 18 ∷ 19 ∷
+        20 ∷ 21 ∷ 22 ∷ 23 ∷ 24 ∷ 25 ∷ 26 ∷ 27 ∷ 28 ∷ 29 ∷ 30 ∷ 31 ∷ 32
         ∷ 33 ∷ 34 ∷ 35 ∷ 36 ∷ 37 ∷ 38 ∷ 39 ∷ 0 ∷ 40 ∷ 41 ∷ 3 ∷ 2 ∷ 42 ∷ 43 ∷ []) $
         first ! $ blocks ! $ loops ! 𝓣 Nearer Nearer-wf At turns (0, (ys₀, (os₀, (0, (zero-le, ran-none (now s) ys₀ os₀ f)))))))))
       where

@@ -54,13 +54,7 @@ sub-run c =
     rest-from file n (start .pre .0) (base .steps-base .result) (told .consumed .result) (base .steps-base .ensures .0) (told .consumed .ensures)
 
 part-run-start : tie.Need-part-run-start
-part-run-start c =
-    let base = c in
-    let told = base .before in
-    let start = told .before .before .before .before .before .before .before .before in
-    let file = start .args .file .now in
-    let n = start .args .n in
-    rest-from file n (start .pre .0) (base .steps-base .result) (told .consumed .result) (base .steps-base .ensures .0) (told .consumed .ensures)
+part-run-start c = sub-run c
 
 part-run-end : tie.Need-part-run-end
 part-run-end c =
