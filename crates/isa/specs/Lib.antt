@@ -4,6 +4,8 @@ pub mod Effect
 pub mod Enable
 pub mod Mac16
 pub mod Vecint
+pub mod Vecfp
+pub mod Fms64
 pub mod Call
 pub mod Answers
 pub mod Step

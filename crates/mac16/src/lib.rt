@@ -96,13 +96,13 @@ fn terms16(xs: &[i16; 32], ys: &[i16; 32], s: u32) -> [u16; 32]
 fn x_mask(op: u64) -> u64
     ensures { λ r. ⌜ r ≡ maskOf (Mac16.xEnabled op) 64 ⌝ }
 {
-    masks::mac16_mask(operand::field(op, 46, 47), operand::field(op, 41, 45))
+    masks::mac16_mask(32, operand::field(op, 46, 47), operand::field(op, 41, 45))
 }
 
 fn y_mask(op: u64) -> u64
     ensures { λ r. ⌜ r ≡ maskOf (Mac16.yEnabled op) 64 ⌝ }
 {
-    masks::mac16_mask(operand::field(op, 37, 38), operand::field(op, 32, 36))
+    masks::mac16_mask(32, operand::field(op, 37, 38), operand::field(op, 32, 36))
 }
 
 fn shift(op: u64) -> u32

@@ -65,9 +65,10 @@ pub in-mode : (rule : ℕ → ℕ → Bool) (m : ℕ) (g : ℕ → Bool) → ((k
 in-mode rule m g h mode e = mask-same _ _ 64 (λ k l. h k ∙ ap (λ (x : ℕ). rule x k) (sym e))
 
 -- mac16's other modes
-pub mac16-mode-3 : (mode n : ℕ) → (mode ≡ 0 → ⊥) → (mode ≡ 1 → ⊥) → (mode ≡ 2 → ⊥) → maskOf (lastOrAll 32 n) 64 ≡ maskOf (mac16Enables mode n) 64
+pub mac16-mode-3 : (lanes mode n : ℕ) → (mode ≡ 0 → ⊥) → (mode ≡ 1 → ⊥) → (mode ≡ 2 → ⊥)
+    → maskOf (lastOrAll lanes n) 64 ≡ maskOf (mac16Enables lanes mode n) 64
 unfolding mac16Enables
-mac16-mode-3 mode n not0 not1 not2 =
+mac16-mode-3 lanes mode n not0 not1 not2 =
     mask-same _ _ 64
     (λ k l. sym (pick-false _ _ (ne-eqb mode 0 not0) ∙ pick-false _ _ (ne-eqb mode 1 not1) ∙ pick-false _ _ (ne-eqb mode 2 not2)))
 

@@ -16,7 +16,7 @@ ghost use Rattle.masks.specs.Mask.{maskOf, laneUsed, placesOf, maskAt, e
 // Every place.
 pub const ALL: u64 = 0xffff_ffff_ffff_ffff;
 
-// ---- what both instructions have
+// ---- what all instructions have
 
 // All lanes or none.
 fn all_if(on: bool) -> u64
@@ -90,7 +90,7 @@ fn by_parity(n: u64, other: bool, halved: bool) -> u64
     all_if(other)
 }
 
-// ---- mac16
+// ---- mac16 and fms64
 
 // Lane n alone.
 fn only(n: u64) -> u64
@@ -102,9 +102,9 @@ fn only(n: u64) -> u64
     1u64 << n
 }
 
-// The lanes of X, or of Y, that a mode and its value enable; there are 32.
-pub fn mac16_mask(mode: u64, n: u64) -> u64
-    ensures { λ r. ⌜ r ≡ maskOf (mac16Enables mode n) 64 ⌝ }
+// The lanes of X, or of Y, that a mode and its value enable, of so many lanes: 32, and 8 of fms64.
+pub fn mac16_mask(lanes: u64, mode: u64, n: u64) -> u64
+    ensures { λ r. ⌜ r ≡ maskOf (mac16Enables lanes mode n) 64 ⌝ }
 {
     if mode == 0 {
         return by_parity(n, false, false);
@@ -115,7 +115,7 @@ pub fn mac16_mask(mode: u64, n: u64) -> u64
     if mode == 2 {
         return first_or_all(n);
     }
-    last_or_all(32, n)
+    last_or_all(lanes, n)
 }
 
 // ---- vecint
