@@ -13,14 +13,14 @@ use Rattle.isa.specs.declared.Answer.{Answer}
 use Rattle.isa.specs.declared.Answer.the-variants.{Done}
 use Rattle.isa.specs.State.{lanesOf, start, countOf}
 use Rattle.isa.specs.Effect.{Effect, touches, sum, count, bytesOn, lanesOn, Fills}
-use Rattle.isa.specs.Call.{Call, effectOf}
-use Rattle.isa.specs.Answers.{rowsAbove, answerBy, isDone}
+use Rattle.isa.specs.Call.{Call, instructionOf, effectOf}
+use Rattle.isa.specs.Answers.{askedRows, rowsAbove, answerBy, isDone}
 use Rattle.isa.specs.Demands.{DoneCounted}
 use Rattle.number.proofs.Tests.{true-false, two, either, pick-true, pick-false, lt-or-le}
 use Rattle.isa.proofs.Place.{lanes-fill, start-row, start-lane, start-in}
 use Rattle.isa.proofs.Applied.{not-xy, touches-in}
 use Rattle.isa.proofs.Lawful.{fills}
-use Rattle.isa.proofs.Rows.{first-all}
+use Rattle.isa.proofs.Rows.{AllRows, first-all, asked-all}
 
 -- ---- sums
 
@@ -164,7 +164,7 @@ done-bytes : (c : Call) (size count serial n : ℕ) → answerBy size count seri
 unfolding answerBy
 done-bytes c size count serial n =
     first-all (λ a. a ≡ Done n → n ≡ bytes) (rowsAbove size count serial c) (Done bytes)
-    (no _ refl, (no _ refl, (no _ refl, (no _ refl, (no _ refl, (no _ refl, (no _ refl, (no _ refl, (no _ refl, tt)))))))))
+    (no _ refl, (no _ refl, (no _ refl, (no _ refl, (no _ refl, asked)))))
     (λ e. cc)
   where
     bytes : ℕ
@@ -173,6 +173,9 @@ done-bytes c size count serial n =
     -- no row above the last answers done
     no : (a : Answer) → isDone a ≡ false → a ≡ Done n → n ≡ bytes
     no a f e = absurd (true-false (sym (ap isDone e) ∙ f))
+
+    asked : AllRows (λ a. a ≡ Done n → n ≡ bytes) (askedRows c)
+    asked = asked-all (λ a. a ≡ Done n → n ≡ bytes) (no _ refl) (no _ refl) (no _ refl) (no _ refl) (instructionOf c) (c .generation) (c .operand)
 
 pub done-counted : DoneCounted
 done-counted c serial s n e =

@@ -18,7 +18,7 @@ use Rattle.isa.specs.State.{xBase, yBase, loaded}
 use Rattle.isa.specs.Effect.{bytesOn}
 use Rattle.isa.specs.Vecint as Vecint
 use Rattle.isa.specs.Call.{call, effectOf}
-use Rattle.isa.specs.Answers.{reservedMode, laterMode, vecintRows, firstOf, ownAnswer}
+use Rattle.isa.specs.Answers.{laterMode, vecintRows, firstOf, ownAnswer}
 use Rattle.isa.specs.Edges.{Edge}
 use Rattle.isa.specs.Guards.{Pin}
 use Rattle.isa.specs.Indexed.{bytePins, offsetPins, OneSide, InRegister, IndexedDone, IndexedAdds, IndexedSwap, PlainLoadStays}
@@ -79,7 +79,7 @@ indexed-done gen op known e reserved shuffles = go known
     no-row : firstOf (vecintRows gen op) done ≡ done
     no-row =
         pick-false _ _ (ap (λ (n : ℕ). not (eqb n 0)) reserved)
-        ∙ pick-false _ _ (ap reservedMode m)
+        ∙ pick-false _ _ (ap Vecint.reservedMode m)
         ∙ pick-false _ _ (ap (laterMode gen) m)
         ∙ pick-false _ _ (λ t. not (eqb (m t) 4) && not (eqb (shuffles t) 0))
 

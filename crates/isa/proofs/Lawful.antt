@@ -1,4 +1,4 @@
--- Both instructions are lawful: their lanes fill a row, and a call that is said to only add does.
+-- Every instruction is lawful: their lanes fill a row, and a call that is said to only add does.
 -- Assumes nothing.
 use mathlib.Core.Path.{_≡_, refl, sym, ap, _∙_}
 use mathlib.Core.Bool.{Bool, true, false, cond, not}
@@ -11,10 +11,12 @@ use Rattle.number.specs.Bytes.{span}
 use Rattle.number.specs.Integers.{signed, wrap, _≫_}
 use Rattle.number.proofs.Modular.{adds-modulo}
 use Rattle.isa.specs.Operand.{bits, bit}
-use Rattle.isa.specs.Effect.{Effect, Fills, OnlyAdds}
+use lib.Ieee.{Format, binary32, binary64}
+use Rattle.isa.specs.Effect.{Fills, OnlyAdds}
 use Rattle.isa.specs.Mac16 as Mac16
 use Rattle.isa.specs.Vecint as Vecint
-use Rattle.isa.specs.Call.{Call, isMac16, effectOf}
+use Rattle.isa.specs.Vecfp as Vecfp
+use Rattle.isa.specs.Call.{Call, Instruction, mac16, vecint, vecfp, fms64, other, instructionOf, effectBy, effectOf}
 use Rattle.number.proofs.Tests.{true-false, is-false, and-left, and-right, pick-false, either}
 
 -- ---- widths
@@ -27,6 +29,9 @@ half = (32, refl)
 
 word : Fills 4
 word = (16, refl)
+
+pub double : Fills 8
+double = (8, refl)
 
 pub mac16-fills : (form : Mac16.Form) → Fills (Mac16.zWidth form)
 mac16-fills Mac16.vector = half
@@ -51,8 +56,19 @@ vecint-fills op =
     either Fills (Vecint.reduces op) (reduction-fills (bits op 42 45))
     (either (λ (w : Vecint.Widths). Fills (w .z)) (Vecint.saturates op) half (widths-fill (bits op 42 45)))
 
+pub vecfp-fills : (f : Format) → Fills (Vecfp.width f)
+vecfp-fills binary32 = word
+vecfp-fills binary64 = double
+
+fills-by : (i : Instruction) (gen op : ℕ) → Fills (effectBy i gen op .width)
+fills-by mac16 gen op = mac16-fills (Mac16.formOf op)
+fills-by vecint gen op = vecint-fills op
+fills-by vecfp gen op = vecfp-fills (Vecfp.formatOf op)
+fills-by fms64 gen op = double
+fills-by other gen op = one
+
 pub fills : (c : Call) → Fills (effectOf c .width)
-fills c = either (λ (e : Effect). Fills (e .width)) (isMac16 c) (mac16-fills (Mac16.formOf (c .operand))) (vecint-fills (c .operand))
+fills c = fills-by (instructionOf c) (c .generation) (c .operand)
 
 -- ---- what only adds
 
@@ -114,6 +130,13 @@ vecint-adds gen op t xy row lane =
           ap (λ (r : ℤ). wrap (span w) r % span w) (pick-false _ _ kept ∙ pick-false _ _ four ∙ d .1 (signed w z)) ∙ lane-adds w (d .0) z,
     )
 
+-- "no float step counts as adding", and no call of another number does
+added-by : (i : Instruction) (gen op : ℕ) → effectBy i gen op .adds ≡ true → OnlyAdds (effectBy i gen op)
+added-by mac16 gen op t = mac16-adds op t
+added-by vecint gen op t = vecint-adds gen op t
+added-by vecfp gen op t = absurd (true-false (sym t))
+added-by fms64 gen op t = absurd (true-false (sym t))
+added-by other gen op t = absurd (true-false (sym t))
+
 pub added : (c : Call) → effectOf c .adds ≡ true → OnlyAdds (effectOf c)
-added c =
-    either (λ (e : Effect). e .adds ≡ true → OnlyAdds e) (isMac16 c) (mac16-adds (c .operand)) (vecint-adds (c .generation) (c .operand))
+added c = added-by (instructionOf c) (c .generation) (c .operand)

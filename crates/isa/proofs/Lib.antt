@@ -10,7 +10,10 @@ pub mod Twice
 pub mod Count
 pub mod Clear
 pub mod NormalMac16
+pub mod NormalVectors
 pub mod NormalVecint
+pub mod NormalVecfp
+pub mod NormalFms64
 pub mod NormalOperand
 pub mod Places
 pub mod Edges

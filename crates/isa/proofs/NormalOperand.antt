@@ -1,13 +1,12 @@
 -- The normal operand gives the operand's answers and states, and is its own normal operand.
 -- Assumes nothing.
 use mathlib.Core.Path.{_≡_, refl, sym, ap, ap₂, _∙_, subst}
-use mathlib.Core.Bool.{Bool, true, false, cond, not, _&&_}
+use mathlib.Core.Bool.{Bool, true, false, cond, not}
 use mathlib.Core.List.{List, [], _∷_}
 use mathlib.Core.Logic.{_⊎_, inl, inr, ⊎-elim}
 use Prim.Native.Nat.{ℕ}
 use lib.Dec.{eqb}
 use lib.ListN.{length}
-use borrow.Author.Tests.{eqb-true}
 use Rattle.isa.specs.declared.Answer.{Answer}
 use Rattle.isa.specs.declared.Answer.the-variants.{Done, NoOp, Refused}
 use Rattle.isa.specs.declared.Refusal.{Refusal}
@@ -16,38 +15,38 @@ use Rattle.isa.specs.declared.Normal.the-variants as normal
 use Rattle.isa.specs.Operand.{bits}
 use Rattle.isa.specs.State.{stateLength, countOf, lastCount}
 use Rattle.isa.specs.Effect.{Effect, bytesOn}
-use Rattle.isa.specs.Mac16 as Mac16
 use Rattle.isa.specs.Vecint as Vecint
-use Rattle.isa.specs.Call.{Call, call, isMac16, isVecint, effectOf}
-use Rattle.isa.specs.Answers.{Row, knownRows, rowsAbove, ownRows, firstOf, answerBy, answerOf, ownAnswer, taken, byState}
-use Rattle.isa.specs.Answers.{reservedBits, reservedMode, laterMode, notCovered, vecintRows, onlyIf}
+use Rattle.isa.specs.Vecfp as Vecfp
+use Rattle.isa.specs.Call.{Call, call, Instruction, mac16, vecint, vecfp, fms64, other, instructionOf, effectBy, effectOf}
+use Rattle.isa.specs.Answers.{Row, laterMode, aluRows, knownRows, askedBy, askedRows, rowsAbove, ownRows}
+use Rattle.isa.specs.Answers.{firstOf, answerBy, answerOf, ownAnswer, taken, byState}
 use Rattle.isa.specs.Step.{leaves, stepped}
-use Rattle.isa.specs.Normal.{mac16Ignored, vecintIgnored, clearedAll, normalOperand, instead, normalOf}
+use Rattle.isa.specs.Normal.{ignoredBy, clearedAll, normalOperand, instead, normalOf}
 use Rattle.isa.specs.Demands.{NormalSame, NormalTwice, NormalAnswers, NormalNever}
 use Rattle.isa.specs.Indexed.{ModeBitsStay}
-use Rattle.number.proofs.Tests.{true-false, two, pick-true, pick-false}
-use Rattle.isa.proofs.Rows.{first-all, first-or}
+use Rattle.number.proofs.Tests.{true-false}
+use Rattle.isa.proofs.Rows.{AllRows, first-all, first-or, asked-all}
 use Rattle.isa.proofs.Step.{by, told}
 use Rattle.isa.proofs.NormalMac16.{mac16-same, mac16-twice}
 use Rattle.isa.proofs.NormalVecint as V′
+use Rattle.isa.proofs.NormalVecfp as Vecfp′
+use Rattle.isa.proofs.NormalFms64 as Fms64′
 
 -- the call with its normal operand
 abbrev normalised : Call → Call
 normalised c = call (c .instruction) (c .generation) (normalOperand c)
 
-mac16-operand : (c : Call) → isMac16 c ≡ true → normalOperand c ≡ clearedAll (mac16Ignored (c .operand)) (c .operand)
-unfolding normalOperand
-mac16-operand c e = ap (λ (bs : _). clearedAll bs (c .operand)) (pick-true _ _ e)
-
-vecint-operand : (c : Call) → isMac16 c ≡ false → normalOperand c ≡ clearedAll (vecintIgnored (c .generation) (c .operand)) (c .operand)
-unfolding normalOperand
-vecint-operand c e = ap (λ (bs : _). clearedAll bs (c .operand)) (pick-false _ _ e)
+-- the operand with an instruction's ignored bits cleared has its effect
+effect-by : (i : Instruction) (gen op : ℕ) → effectBy i gen (clearedAll (ignoredBy i gen op) op) ≡ effectBy i gen op
+effect-by mac16 gen op = mac16-same op
+effect-by vecint gen op = V′.vecint-same gen op
+effect-by vecfp gen op = Vecfp′.vecfp-same gen op
+effect-by fms64 gen op = Fms64′.fms64-same op
+effect-by other gen op = refl
 
 effect-same : (c : Call) → effectOf (normalised c) ≡ effectOf c
-effect-same c =
-    two (isMac16 c) (effectOf (normalised c) ≡ effectOf c)
-    (λ e. pick-true _ _ e ∙ ap Mac16.mac16 (mac16-operand c e) ∙ mac16-same (c .operand) ∙ sym (pick-true _ _ e))
-    (λ e. pick-false _ _ e ∙ ap (Vecint.vecint (c .generation)) (vecint-operand c e) ∙ V′.vecint-same (c .generation) (c .operand) ∙ sym (pick-false _ _ e))
+unfolding normalOperand
+effect-same c = effect-by (instructionOf c) (c .generation) (c .operand)
 
 -- ---- the answer
 
@@ -65,46 +64,33 @@ first-same [] (q ∷ qs) a b l e = absurd l
 first-same (r ∷ rs) [] a b l e = absurd l
 first-same (r ∷ rs) (q ∷ qs) a b l e = λ t. cond (l .0 .0 t) (l .0 .1 t) (first-same rs qs a b (l .1) e t)
 
--- a test that is made for vecint alone, on two operands
-for-vecint : (c : Call) (p q : Bool) → (isMac16 c ≡ false → p ≡ q) → (isVecint c && p) ≡ (isVecint c && q)
-for-vecint c p q same =
-    two (isMac16 c) ((isVecint c && p) ≡ (isVecint c && q))
-    (λ e.
-    let no-vecint : isVecint c ≡ false = ap (λ (i : ℕ). eqb i 18) (eqb-true (c .instruction) 14 e) in
-    ap (λ (b : Bool). b && p) no-vecint ∙ sym (ap (λ (b : Bool). b && q) no-vecint))
-    (λ e. ap (λ (b : Bool). isVecint c && b) (same e))
+-- the rows that vecint and vecfp have, by what they look at
+alu-alike : (gen kept op : ℕ) {r q u v : Bool} → bits kept 54 56 ≡ bits op 54 56 → r ≡ q → Vecint.mode kept ≡ Vecint.mode op → u ≡ v
+    → Alike (aluRows gen kept r u) (aluRows gen op q v)
+unfolding Alike
+alu-alike gen kept op reserved e mode f = (
+  (ap (λ (x : ℕ). not (eqb x 0)) reserved, refl),
+  ((e, refl), ((ap (laterMode gen) mode, refl), ((f, refl), tt))),
+)
 
--- bits 27 to 30 count outside mode 4
-not-covered-same : (gen op : ℕ) → notCovered (V′.kept gen op) ≡ notCovered op
-not-covered-same gen op =
-    let kept : ℕ = V′.kept gen op in
-    two (Vecint.reduces op) (notCovered kept ≡ notCovered op)
-    (λ e.
-    ap (λ (b : Bool). not b && not (eqb (bits kept 27 30) 0)) (V′.reduces-same gen op ∙ e)
-    ∙ sym (ap (λ (b : Bool). not b && not (eqb (bits op 27 30) 0)) e))
-    (λ e. λ t. not (V′.reduces-same gen op t) && not (eqb (V′.same gen op 27 30 (rw e tt) t) 0))
+asked-alike : (i : Instruction) (gen op : ℕ) → Alike (askedBy i gen (clearedAll (ignoredBy i gen op) op)) (askedBy i gen op)
+unfolding Alike
+asked-alike mac16 gen op = tt
+asked-alike vecint gen op =
+    let mode = V′.mode-same gen op in
+    alu-alike gen (V′.kept gen op) op (V′.same gen op 54 56 tt) (ap Vecint.reservedMode mode) mode (V′.not-covered-same gen op)
+asked-alike vecfp gen op =
+    let mode = Vecfp′.mode-same gen op in
+    alu-alike gen (Vecfp′.kept gen op) op (Vecfp′.same gen op 54 56 tt) (ap Vecfp.reservedMode mode) mode (Vecfp′.not-covered-same gen op)
+asked-alike fms64 gen op = ((Fms64′.not-covered-same op, refl), tt)
+asked-alike other gen op = tt
 
 answer-same : (n count serial : ℕ) (c : Call) → answerBy n count serial (normalised c) ≡ answerBy n count serial c
-unfolding answerBy Alike
+unfolding answerBy Alike normalOperand
 answer-same n count serial c =
-    let g : ℕ = c .generation in
-    let op : ℕ = c .operand in
-    let kept : ℕ = normalOperand c in
-    let alike : (f : ℕ → Bool) → f (V′.kept g op) ≡ f op → (isVecint c && f kept) ≡ (isVecint c && f op) =
-    λ f same. for-vecint c (f kept) (f op) (λ e. ap f (vecint-operand c e) ∙ same)
-    in
-    let by-mode : (f : ℕ → Bool) → (isVecint c && f (Vecint.mode kept)) ≡ (isVecint c && f (Vecint.mode op)) =
-    λ f. alike (λ (x : ℕ). f (Vecint.mode x)) (ap f (V′.mode-same g op))
-    in
-    let bits-row = alike reservedBits (ap (λ (x : ℕ). not (eqb x 0)) (V′.same g op 54 56 tt)) in
-    let vecint-alike : Alike (onlyIf (isVecint c) (vecintRows g kept)) (onlyIf (isVecint c) (vecintRows g op)) = (
-      (bits-row, refl),
-      ((by-mode reservedMode, refl), ((by-mode (laterMode g), refl), ((alike notCovered (not-covered-same g op), refl), tt))),
-    )
-    in
     first-same (rowsAbove n count serial (normalised c)) (rowsAbove n count serial c)
     (Done (bytesOn (effectOf (normalised c)))) (Done (bytesOn (effectOf c)))
-    ((refl, refl), ((refl, refl), ((refl, refl), ((refl, refl), ((refl, refl), vecint-alike)))))
+    ((refl, refl), ((refl, refl), ((refl, refl), ((refl, refl), ((refl, refl), asked-alike (instructionOf c) (c .generation) (c .operand))))))
     (ap (λ (e : Effect). Done (bytesOn e)) (effect-same c))
 
 -- a state of the right length, before its first step, refuses no call, nor does the serial due
@@ -120,7 +106,8 @@ unfolding stepped
 step-same c serial s = λ t. leaves (answer-same (length s) (countOf s) serial c t) (effect-same c t) s
 
 pub mode-bits-stay : ModeBitsStay
-mode-bits-stay c e f = ap (λ (x : ℕ). bits x 47 52) (vecint-operand c e) ∙ V′.mode-bits-same (c .generation) (c .operand) f
+unfolding normalOperand
+mode-bits-stay gen op f = V′.mode-bits-same gen op f
 
 -- ---- the demands
 
@@ -140,17 +127,18 @@ normal-same c op e serial s =
     subst (λ (x : ℕ). (answerOf s (of x) serial ≡ answerOf s c serial) × (stepped (of x) serial s ≡ stepped c serial s))
     (is-normal c op e) (answer-same (length s) (countOf s) serial c, step-same c serial s)
 
+twice-by : (i : Instruction) (gen op : ℕ)
+    → let kept : ℕ = clearedAll (ignoredBy i gen op) op in
+    clearedAll (ignoredBy i gen kept) kept ≡ kept
+twice-by mac16 gen op = mac16-twice op
+twice-by vecint gen op = V′.vecint-twice gen op
+twice-by vecfp gen op = Vecfp′.vecfp-twice gen op
+twice-by fms64 gen op = Fms64′.fms64-twice op
+twice-by other gen op = refl
+
 operand-twice : (c : Call) → normalOperand (normalised c) ≡ normalOperand c
-operand-twice c =
-    two (isMac16 c) (normalOperand (normalised c) ≡ normalOperand c)
-    (λ e.
-    mac16-operand (normalised c) e
-    ∙ ap (λ (x : ℕ). clearedAll (mac16Ignored x) x) (mac16-operand c e)
-    ∙ mac16-twice (c .operand) ∙ sym (mac16-operand c e))
-    (λ e.
-    vecint-operand (normalised c) e
-    ∙ ap (λ (x : ℕ). clearedAll (vecintIgnored (c .generation) x) x) (vecint-operand c e)
-    ∙ V′.vecint-twice (c .generation) (c .operand) ∙ sym (vecint-operand c e))
+unfolding normalOperand
+operand-twice c = twice-by (instructionOf c) (c .generation) (c .operand)
 
 pub normal-twice : NormalTwice
 normal-twice c op e =
@@ -210,8 +198,11 @@ NotByState (Refused r) = byState r ≡ false
 pub normal-never : NormalNever
 unfolding normalOf ownAnswer
 normal-never c r e =
-    go (ownAnswer c) e (first-all NotByState (ownRows c) (Done (bytesOn (effectOf c))) (refl, (refl, (tt, (tt, (tt, (refl, tt)))))) tt)
+    go (ownAnswer c) e (first-all NotByState (ownRows c) (Done (bytesOn (effectOf c))) (refl, (refl, asked)) tt)
   where
+    asked : AllRows NotByState (askedRows c)
+    asked = asked-all NotByState tt tt tt refl (instructionOf c) (c .generation) (c .operand)
+
     go : (a : Answer) → instead a (normalOperand c) ≡ normal.Refused r → NotByState a → byState r ≡ false
     go (Done n) e h = cc
     go (NoOp x) e h = cc

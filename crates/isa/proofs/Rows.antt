@@ -3,8 +3,13 @@
 use mathlib.Core.Path.{_≡_, refl, sym, _∙_}
 use mathlib.Core.List.{List, [], _∷_}
 use mathlib.Core.Logic.{_⊎_, inl, inr, ⊎-elim}
+use Prim.Native.Nat.{ℕ}
 use Rattle.isa.specs.declared.Answer.{Answer}
-use Rattle.isa.specs.Answers.{Row, firstOf}
+use Rattle.isa.specs.declared.Answer.the-variants.{NoOp, Refused}
+use Rattle.isa.specs.declared.Reason.the-variants.{ReservedBits, ReservedMode, LaterGeneration}
+use Rattle.isa.specs.declared.Refusal.the-variants.{NotCovered}
+use Rattle.isa.specs.Call.{Instruction, mac16, vecint, vecfp, fms64, other}
+use Rattle.isa.specs.Answers.{Row, firstOf, askedBy}
 use Rattle.number.proofs.Tests.{two, either, pick-true, pick-false}
 
 abbrev pub AllRows : (Answer → Type 0) → List Row → Type 0
@@ -15,6 +20,15 @@ AllRows P (r ∷ rs) = P (r .answer) × AllRows P rs
 pub first-all : (P : Answer → Type 0) (rs : List Row) (a : Answer) → AllRows P rs → P a → P (firstOf rs a)
 first-all P [] a h x = x
 first-all P (r ∷ rs) a h x = either P (r .applies) (h .0) (first-all P rs a (h .1) x)
+
+-- the rows by what a call asks for have four answers
+pub asked-all : (P : Answer → Type 0) → P (NoOp ReservedBits) → P (NoOp ReservedMode) → P (NoOp LaterGeneration) → P (Refused NotCovered)
+    → (i : Instruction) (gen op : ℕ) → AllRows P (askedBy i gen op)
+asked-all P a b c d mac16 gen op = tt
+asked-all P a b c d vecint gen op = (a, (b, (c, (d, tt))))
+asked-all P a b c d vecfp gen op = (a, (b, (c, (d, tt))))
+asked-all P a b c d fms64 gen op = (d, tt)
+asked-all P a b c d other gen op = tt
 
 -- the rows give an answer, whatever comes after them, or what comes after them does
 pub first-or : (rs : List Row) (a b : Answer) → (firstOf rs a ≡ firstOf rs b) ⊎ (firstOf rs a ≡ a)

@@ -16,8 +16,10 @@ use Rattle.isa.specs.declared.Normal.the-variants as normal
 use Rattle.isa.specs.Operand.{bits}
 use Rattle.isa.specs.State.{stateLength, countOf, lastCount}
 use Rattle.isa.specs.Effect.{bytesOn}
-use Rattle.isa.specs.Vecint.{mode, reduces}
-use Rattle.isa.specs.Call.{Call, isMac16, isVecint, effectOf}
+use Rattle.isa.specs.Vecint as Vecint
+use Rattle.isa.specs.Vecfp as Vecfp
+use Rattle.isa.specs.Fms64 as Fms64
+use Rattle.isa.specs.Call.{Call, Instruction, mac16, vecint, vecfp, fms64, other, instructionOf, effectOf}
 
 -- ---- the numbers of 01
 
@@ -63,48 +65,61 @@ pub record Row : Type 0 where
 abbrev row : Bool → Answer → Row
 row applies answer = record { applies = applies; answer = answer }
 
--- no-op 1: vecint, any of bits 54..56 set
+-- no-op 1: any of bits 54..56 set
 abbrev pub reservedBits : ℕ → Bool
 reservedBits op = not (eqb (bits op 54 56) 0)
 
--- no-op 2: vecint ALU mode 7, 8, 9 or above 12
-abbrev pub reservedMode : ℕ → Bool
-reservedMode m = leb 7 m && leb m 9 || leb 13 m
-
--- no-op 3: vecint ALU mode 10, 11, 12 on generation 1
+-- no-op 3: ALU mode 10, 11, 12 on generation 1
 abbrev pub laterMode : ℕ → ℕ → Bool
 laterMode gen m = leb 10 m && leb m 12 && eqb gen 1
 
--- refused 4: vecint, ALU mode not 4 and bits 27..30 not all 0. "Refusal 4 is left for nonzero shuffles."
-abbrev pub notCovered : ℕ → Bool
-notCovered op = not (reduces op) && not (eqb (bits op 27 30) 0)
-
--- the rows that are vecint's alone
-abbrev pub vecintRows : ℕ → ℕ → List Row
-vecintRows gen op =
+-- the rows that vecint and vecfp have: no-op 1 to 3, where no-op 2 is for a mode that the instruction reserves, and refused 4 for what of it is not
+-- covered
+abbrev pub aluRows : ℕ → ℕ → Bool → Bool → List Row
+aluRows gen op reserved uncovered =
     row (reservedBits op) (NoOp reason.ReservedBits)
-    ∷ row (reservedMode (mode op)) (NoOp reason.ReservedMode)
-    ∷ row (laterMode gen (mode op)) (NoOp reason.LaterGeneration)
-    ∷ row (notCovered op) (Refused refusal.NotCovered)
+    ∷ row reserved (NoOp reason.ReservedMode)
+    ∷ row (laterMode gen (Vecint.mode op)) (NoOp reason.LaterGeneration)
+    ∷ row uncovered (Refused refusal.NotCovered)
     ∷ []
 
--- rows that apply on a further condition
-abbrev pub onlyIf : Bool → List Row → List Row
-onlyIf condition [] = []
-onlyIf condition (r ∷ rs) = row (condition && r .applies) (r .answer) ∷ onlyIf condition rs
+abbrev pub vecintRows : ℕ → ℕ → List Row
+vecintRows gen op = aluRows gen op (Vecint.reservedMode (Vecint.mode op)) (Vecint.notCovered op)
+
+-- "Vecfp keeps no-ops 1 to 3 by its own mode list."
+abbrev pub vecfpRows : ℕ → ℕ → List Row
+vecfpRows gen op = aluRows gen op (Vecfp.reservedMode (Vecint.mode op)) (Vecfp.notCovered op)
+
+abbrev pub fms64Rows : ℕ → List Row
+fms64Rows op = row (Fms64.notCovered op) (Refused refusal.NotCovered) ∷ []
+
+-- whether an instruction is none of those covered
+abbrev pub isOther : Instruction → Bool
+isOther mac16 = false
+isOther vecint = false
+isOther vecfp = false
+isOther fms64 = false
+isOther other = true
 
 -- the rows by a call's generation and instruction
 abbrev pub knownRows : Call → List Row
 knownRows c =
     -- refused 2: generation not 1 or 2
     row (not (eqb (c .generation) 1 || eqb (c .generation) 2)) (Refused refusal.Generation)
-    -- refused 3: instruction not 14 or 18
-    ∷ row (not (isMac16 c || isVecint c)) (Refused refusal.Instruction)
+    -- refused 3: "Refusal 3 now lets 11 and 19 through."
+    ∷ row (isOther (instructionOf c)) (Refused refusal.Instruction)
     ∷ []
 
 -- the rows by what a known call asks for
+abbrev pub askedBy : Instruction → ℕ → ℕ → List Row
+askedBy mac16 gen op = []
+askedBy vecint gen op = vecintRows gen op
+askedBy vecfp gen op = vecfpRows gen op
+askedBy fms64 gen op = fms64Rows op
+askedBy other gen op = []
+
 abbrev pub askedRows : Call → List Row
-askedRows c = onlyIf (isVecint c) (vecintRows (c .generation) (c .operand))
+askedRows c = askedBy (instructionOf c) (c .generation) (c .operand)
 
 -- "After refusals 1 to 3 and before no-ops: serial not equal to the count is refused 8; a count at 2^64 - 1 is refused 9, tested before 8."
 abbrev pub serialRows : ℕ → ℕ → List Row

@@ -14,7 +14,7 @@ use Rattle.isa.specs.Operand.{bits, bit}
 use Rattle.isa.specs.State.{stateLength, xBase, yBase, rowBytes, loaded}
 use Rattle.isa.specs.Effect.{bytesOn}
 use Rattle.isa.specs.Vecint as Vecint
-use Rattle.isa.specs.Call.{Call, call, isMac16, effectOf}
+use Rattle.isa.specs.Call.{call, effectOf}
 use Rattle.isa.specs.Answers.{ownAnswer}
 use Rattle.isa.specs.Normal.{normalOperand}
 use Rattle.isa.specs.Swap.{CountLeft, Allowed}
@@ -148,4 +148,4 @@ PlainLoadStays = (gen op : ℕ) → bit op 53 ≡ false → (xy : List ℕ) (v i
 
 -- without bit 53 the normal operand keeps bit 52, which is the ALU mode's
 abbrev pub ModeBitsStay : Type 0
-ModeBitsStay = (c : Call) → isMac16 c ≡ false → bit (c .operand) 53 ≡ false → bits (normalOperand c) 47 52 ≡ bits (c .operand) 47 52
+ModeBitsStay = (gen op : ℕ) → bit op 53 ≡ false → bits (normalOperand (call 18 gen op)) 47 52 ≡ bits op 47 52
