@@ -18,6 +18,7 @@ pub mod NormalOperand
 pub mod Places
 pub mod Edges
 pub mod Guards
+pub mod FloatEdges
 pub mod MixedWidths
 pub mod Indexed
 pub mod Serials

@@ -15,6 +15,7 @@ pub mod Demands
 pub mod Places
 pub mod Edges
 pub mod Guards
+pub mod FloatEdges
 pub mod Serials
 pub mod MixedWidths
 pub mod Indexed
