@@ -10,8 +10,9 @@ use lib.Pow.{split}
 use Rattle.isa.specs.Operand.{bits, bit, cleared}
 use Rattle.isa.specs.Mac16 as Mac16
 use Rattle.isa.specs.Vecint as Vecint
-use Rattle.isa.specs.Normal.{ignoredByAll, ignoredByForm, mac16Ignored, vecintIgnored, clearedAll}
-use Rattle.isa.specs.Normal.{ignoredAlways, ignoredByVectors, ignoredByMode, ignoredByLoad, ignoredByRows}
+use Rattle.isa.specs.Fms64 as Fms64
+use Rattle.isa.specs.Normal.{ignoredByAll, ignoredByForm, mac16Ignored, vecintIgnored, vecfpAlways, vecfpIgnored, fms64IgnoredIf, fms64Ignored, clearedAll}
+use Rattle.isa.specs.Normal.{ignoredAlways, ignoredByVectors, ignoredByValue, ignoredByMode, ignoredByLoad, ignoredByRows}
 use Rattle.isa.proofs.Clear.{cleared-zero}
 use Rattle.operand.proofs.Fields.{field-past}
 
@@ -51,7 +52,7 @@ next-if first last e f g = e ∙ (λ t. cond (f t) (cleared (g t) first last) (g
 
 -- ---- the lists
 
-pub by-form : (op kept n : ℕ) (form : Mac16.Form) → Mac16.formOf op ≡ form → kept ≡ clearedAll ignoredByAll op
+pub by-form : (op kept n : ℕ) (form : Mac16.Form) → Mac16.formOf op ≡ form → kept ≡ clearedAll (ignoredByAll 54) op
     → n ≡ clearedAll (ignoredByForm form) kept → n ≡ clearedAll (mac16Ignored op) op
 by-form op kept n form f k e = e ∙ (λ t. clearedAll (ignoredByForm (sym f t)) (k t))
 
@@ -79,3 +80,21 @@ by-parts gen op ea ev em el er en =
     let m′ = em ∙ ap (clearedAll (ignoredByMode (Vecint.saturates op) (Vecint.reduces op))) v′ in
     let l′ = el ∙ ap (clearedAll (ignoredByLoad (bit op 53))) m′ in
     en ∙ (λ t. clearedAll (ignoredByRows (er t)) (l′ t))
+
+pub float-parts : (gen op : ℕ) {a v n : ℕ} {several : Bool} → a ≡ clearedAll vecfpAlways op
+    → v ≡ clearedAll (ignoredByVectors (eqb gen 1) (Vecint.several gen op) (bit op 25)) a
+    → several ≡ Vecint.several gen op
+    → n ≡ clearedAll (ignoredByValue several) v
+    → n ≡ clearedAll (vecfpIgnored gen op) op
+float-parts gen op ea ev es en =
+    let v′ = ev ∙ ap (clearedAll (ignoredByVectors (eqb gen 1) (Vecint.several gen op) (bit op 25))) ea in
+    en ∙ (λ t. clearedAll (ignoredByValue (es t)) (v′ t))
+
+-- fms64, in vector or in matrix mode
+pub double-parts : (op : ℕ) {kept n : ℕ} {vector : Bool} → Fms64.vector op ≡ vector → kept ≡ clearedAll (ignoredByAll 62) op
+    → n ≡ cond vector (cleared kept 32 38) (cleared kept 23 25) → n ≡ clearedAll (fms64Ignored op) op
+double-parts op {kept} {n} {vector} e k en = en ∙ go vector ∙ (λ t. clearedAll (fms64IgnoredIf (sym e t)) op)
+  where
+    go : (v : Bool) → cond v (cleared kept 32 38) (cleared kept 23 25) ≡ clearedAll (fms64IgnoredIf v) op
+    go true = ap (λ (x : ℕ). cleared x 32 38) k
+    go false = ap (λ (x : ℕ). cleared x 23 25) k

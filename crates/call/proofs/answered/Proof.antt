@@ -1,5 +1,5 @@
 use mathlib.Core.Path.{sym, _∙_}
-use Rattle.call.proofs.Rows.{first-length, first-generation, first-instruction, first-last, first-serial, first-mac16, first-vecint}
+use Rattle.call.proofs.Rows.{first-length, first-generation, first-instruction, first-last, first-serial, first-asked}
 use borrow.Author.Needs.{needs}
 use Rattle.call.proofs.answered.Statement.{statement}
 use Rattle.call.proofs.answered.Tie as tie
@@ -19,8 +19,8 @@ returns-2 c =
     first-generation (a .length) (a .count) (a .serial) (a .instruction) (a .generation) (a .operand) (length .if1 .left)
     (sym (c .before .neither .ensures) ∙ c .if2 .taken)
 
-neither-requires-2 : tie.Need-neither-requires-2
-neither-requires-2 c κs = search needs
+is-other-requires : tie.Need-is-other-requires
+is-other-requires c κs = search needs
 
 returns-3 : tie.Need-returns-3
 returns-3 c =
@@ -28,7 +28,7 @@ returns-3 c =
     let length = generation .before .before in
     let a = length .before .args in
     first-instruction (a .length) (a .count) (a .serial) (a .instruction) (a .generation) (a .operand) (length .if1 .left)
-    (sym (generation .before .neither .ensures) ∙ generation .if2 .left) (sym (c .before .neither2 .ensures) ∙ c .if3 .taken)
+    (sym (generation .before .neither .ensures) ∙ generation .if2 .left) (sym (c .before .is-other .ensures) ∙ c .if3 .taken)
 
 returns-4 : tie.Need-returns-4
 returns-4 c =
@@ -38,7 +38,7 @@ returns-4 c =
     let a = length .before .args in
     first-last (a .length) (a .count) (a .serial) (a .instruction) (a .generation) (a .operand) (length .if1 .left)
     (sym (generation .before .neither .ensures) ∙ generation .if2 .left)
-    (sym (instruction .before .neither2 .ensures) ∙ instruction .if3 .left)
+    (sym (instruction .before .is-other .ensures) ∙ instruction .if3 .left)
     (c .if4 .taken)
 
 returns-5 : tie.Need-returns-5
@@ -50,8 +50,11 @@ returns-5 c =
     let a = length .before .args in
     first-serial (a .length) (a .count) (a .serial) (a .instruction) (a .generation) (a .operand) (length .if1 .left)
     (sym (generation .before .neither .ensures) ∙ generation .if2 .left)
-    (sym (instruction .before .neither2 .ensures) ∙ instruction .if3 .left)
+    (sym (instruction .before .is-other .ensures) ∙ instruction .if3 .left)
     (last .if4 .left) (c .if5 .taken)
+
+asked-requires : tie.Need-asked-requires
+asked-requires c κs = search needs
 
 returns-6 : tie.Need-returns-6
 returns-6 c =
@@ -61,28 +64,11 @@ returns-6 c =
     let generation = instruction .before .before in
     let length = generation .before .before in
     let a = length .before .args in
-    first-mac16 (a .length) (a .count) (a .serial) (a .instruction) (a .generation) (a .operand) (length .if1 .left)
+    c .asked .ensures
+    ∙ first-asked (a .length) (a .count) (a .serial) (a .instruction) (a .generation) (a .operand) (length .if1 .left)
     (sym (generation .before .neither .ensures) ∙ generation .if2 .left)
-    (sym (instruction .before .neither2 .ensures) ∙ instruction .if3 .left)
-    (last .if4 .left) (serial .if5 .left) (c .if6 .taken)
-
-vecint-answered-requires : tie.Need-vecint-answered-requires
-vecint-answered-requires c κs = search needs
-
-returns-7 : tie.Need-returns-7
-returns-7 c =
-    let mac16 = c .before in
-    let serial = mac16 .before in
-    let last = serial .before in
-    let instruction = last .before in
-    let generation = instruction .before .before in
-    let length = generation .before .before in
-    let a = length .before .args in
-    c .vecint-answered .ensures
-    ∙ first-vecint (a .length) (a .count) (a .serial) (a .instruction) (a .generation) (a .operand) (length .if1 .left)
-    (sym (generation .before .neither .ensures) ∙ generation .if2 .left)
-    (sym (instruction .before .neither2 .ensures) ∙ instruction .if3 .left)
-    (last .if4 .left) (serial .if5 .left) (mac16 .if6 .left)
+    (sym (instruction .before .is-other .ensures) ∙ instruction .if3 .left)
+    (last .if4 .left) (serial .if5 .left)
 
 pub answered-spec : {M : Type 1} → statement M
 answered-spec =
@@ -91,10 +77,9 @@ answered-spec =
     returns
     neither-requires
     returns-2
-    neither-requires-2
+    is-other-requires
     returns-3
     returns-4
     returns-5
-    returns-6
-    vecint-answered-requires
-    returns-7)
+    asked-requires
+    returns-6)
