@@ -10,19 +10,18 @@ use lib.ListN.{length, drop}
 use lib.Seq.{take-at}
 use borrow.Author.Tests.{eq-eqb}
 use Rattle.number.specs.Bytes.{span, byteAt, number}
-use Rattle.number.proofs.Tests.{pick-true}
+use Rattle.number.proofs.Tests.{either, pick-true}
 use Rattle.isa.specs.declared.Answer.{Answer}
 use Rattle.isa.specs.declared.Answer.the-variants.{Done, NoOp, Refused}
 use Rattle.isa.specs.State.{registersOf, countOf, lastCount, stateOf}
-use Rattle.isa.specs.Effect.{Effect, applied, bytesOn}
-use Rattle.isa.specs.Call.{Call, call, effectOf}
+use Rattle.isa.specs.Effect.{Effect, nothing, applied, bytesOn}
+use Rattle.isa.specs.Call.{Call, call, Instruction, instructionBy, effectBy, effectOf}
 use Rattle.isa.specs.Answers.{Row, rowsAbove, firstOf, answerBy, answerOf, taken}
 use Rattle.isa.specs.Step.{stepped}
-use Rattle.isa.specs.Mac16.{mac16}
-use Rattle.isa.specs.Vecint.{vecint}
-use Rattle.isa.proofs.Rows.{AllRows}
+use Rattle.isa.proofs.Rows.{AllRows, above-all}
 use Rattle.isa.proofs.Registers.{length-registers}
-use Rattle.isa.proofs.Applied.{length-applied}
+use Rattle.isa.proofs.Applied.{length-applied, applied-nothing}
+use Rattle.isa.proofs.Count.{nothing-bytes}
 use Rattle.isa.proofs.Step.{met, stepped-as}
 
 -- the count, as it is read
@@ -37,8 +36,15 @@ module _ (s t : List ℕ) (r : ℕ) where
   abbrev By : Effect → Type 0
   By e = (t ≡ cond (eqb (length s) 5120) (applied e s) s) × (r ≡ cond (eqb (length s) 5120) (bytesOn e) 0)
 
-  pub ran : (i gen op : ℕ) (b : Bool) → eqb i 14 ≡ b → By (cond b (mac16 op) (vecint gen op)) → By (effectOf (call i gen op))
-  ran i gen op b e = subst (λ (t : Bool). By (cond t (mac16 op) (vecint gen op))) (sym e)
+  pub ran : (i gen op : ℕ) (k : Instruction) → instructionBy i ≡ k → By (effectBy k gen op) → By (effectOf (call i gen op))
+  ran i gen op k e = subst (λ (x : Instruction). By (effectBy x gen op)) (sym e)
+
+-- another number does nothing
+pub ran-nothing : (s : List ℕ) → By s s 0 nothing
+ran-nothing s = (
+  sym (either (λ (l : List ℕ). l ≡ s) (eqb (length s) 5120) (applied-nothing s) refl),
+  sym (either (λ (n : ℕ). n ≡ 0) (eqb (length s) 5120) nothing-bytes refl),
+)
 
 -- and then the count is raised to n
 pub done-as : (e : Effect) (s t u : List ℕ) (r n : ℕ) → length s ≡ 5128 → By (registersOf s) t r e → u ≡ stateOf (registersOf (t ++ drop 5120 s)) n
@@ -61,8 +67,11 @@ counted (NoOp r) n = NoOp r
 counted (Refused r) n = Refused r
 
 -- no row of the table says done
+abbrev Same : Answer → Type 0
+Same a = (n : ℕ) → counted a n ≡ a
+
 abbrev NoneDone : List Row → Type 0
-NoneDone = AllRows (λ (a : Answer). (n : ℕ) → counted a n ≡ a)
+NoneDone = AllRows Same
 
 recounted : (rows : List Row) → NoneDone rows → (m n : ℕ) → counted (firstOf rows (Done m)) n ≡ firstOf rows (Done n)
 recounted [] h m n = refl
@@ -92,7 +101,7 @@ module _ (i gen op serial : ℕ) (s : List ℕ) (count : ℕ) (read : count ≡ 
   unfolding answerBy
   answer-is =
       let none : NoneDone (rowsAbove (length s) count serial c) =
-      ((λ n. refl), ((λ n. refl), ((λ n. refl), ((λ n. refl), ((λ n. refl), ((λ n. refl), ((λ n. refl), ((λ n. refl), ((λ n. refl), tt)))))))))
+      above-all Same (λ n. refl) (λ n. refl) (λ n. refl) (λ n. refl) (λ n. refl) (λ n. refl) (λ n. refl) (λ n. refl) (λ n. refl) (length s) count serial c
       in
       ap (λ (k : ℕ). firstOf (rowsAbove (length s) k serial c) (Done bytes)) (sym read)
       ∙ sym (recounted (rowsAbove (length s) count serial c) none 0 bytes)

@@ -1,4 +1,4 @@
-// The unit: one step of either instruction, the normal operand, and what a host in C or Rust calls.
+// The unit: one step of any instruction, the normal operand, and what a host in C or Rust calls.
 ghost use mathlib.Core.Path.{_≡_};
 ghost use mathlib.Core.Bool.{cond};
 ghost use Prim.Native.Nat.{_+_, _<_};
@@ -28,7 +28,16 @@ fn run(registers: &mut [u8], instruction: u64, generation: u64, operand: u64) ->
     if instruction == 14 {
         return mac16::step(registers, operand);
     }
-    vecint::step(registers, generation, operand)
+    if instruction == 18 {
+        return vecint::step(registers, generation, operand);
+    }
+    if instruction == 19 {
+        return vecfp::step(registers, generation, operand);
+    }
+    if instruction == 11 {
+        return fms64::step(registers, operand);
+    }
+    0
 }
 
 // One more step taken.

@@ -12,15 +12,15 @@ use borrow.Author.Tests.{ne-eqb, eqb-true, eqb-false}
 use Rattle.isa.specs.declared.Answer.{Answer}
 use Rattle.isa.specs.declared.Answer.the-variants.{Done}
 use Rattle.isa.specs.State.{lanesOf, start, countOf}
-use Rattle.isa.specs.Effect.{Effect, touches, sum, count, bytesOn, lanesOn, Fills}
-use Rattle.isa.specs.Call.{Call, instructionOf, effectOf}
-use Rattle.isa.specs.Answers.{askedRows, rowsAbove, answerBy, isDone}
+use Rattle.isa.specs.Effect.{Effect, nothing, touches, sum, count, bytesOn, lanesOn, Fills}
+use Rattle.isa.specs.Call.{Call, effectOf}
+use Rattle.isa.specs.Answers.{rowsAbove, answerBy, isDone}
 use Rattle.isa.specs.Demands.{DoneCounted}
 use Rattle.number.proofs.Tests.{true-false, two, either, pick-true, pick-false, lt-or-le}
 use Rattle.isa.proofs.Place.{lanes-fill, start-row, start-lane, start-in}
-use Rattle.isa.proofs.Applied.{not-xy, touches-in}
+use Rattle.isa.proofs.Applied.{not-xy, touches-in, nothing-touched}
 use Rattle.isa.proofs.Lawful.{fills}
-use Rattle.isa.proofs.Rows.{AllRows, first-all, asked-all}
+use Rattle.isa.proofs.Rows.{first-all, above-all}
 
 -- ---- sums
 
@@ -154,6 +154,11 @@ module _ (e : Effect) where
         ∙ sum-scale (λ row. count (e .on row) (lanesOf (e .width))) (e .width) 64
         ∙ mul-comm (e .width) (sum (λ row. count (e .on row) (lanesOf (e .width))) 64)
 
+-- an effect that enables no lane touches no byte
+pub nothing-bytes : bytesOn nothing ≡ 0
+unfolding bytesOn
+nothing-bytes = sum-cong (one nothing) (λ p. 0) 5120 (λ p h. ap (λ (t : Bool). cond t 1 0) (nothing-touched p)) ∙ none 5120
+
 -- lanes that are counted give the bytes
 pub bytes-of : (e : Effect) → Fills (e .width) → (n : ℕ) → n ≡ lanesOn e → n * e .width ≡ bytesOn e
 bytes-of e (m, fit) n counted = ap (λ (k : ℕ). k * e .width) counted ∙ sym (bytes-lanes e m fit)
@@ -164,7 +169,8 @@ done-bytes : (c : Call) (size count serial n : ℕ) → answerBy size count seri
 unfolding answerBy
 done-bytes c size count serial n =
     first-all (λ a. a ≡ Done n → n ≡ bytes) (rowsAbove size count serial c) (Done bytes)
-    (no _ refl, (no _ refl, (no _ refl, (no _ refl, (no _ refl, asked)))))
+    (above-all (λ a. a ≡ Done n → n ≡ bytes) (no _ refl) (no _ refl) (no _ refl) (no _ refl) (no _ refl) (no _ refl) (no _ refl) (no _ refl) (no _ refl)
+    size count serial c)
     (λ e. cc)
   where
     bytes : ℕ
@@ -173,9 +179,6 @@ done-bytes c size count serial n =
     -- no row above the last answers done
     no : (a : Answer) → isDone a ≡ false → a ≡ Done n → n ≡ bytes
     no a f e = absurd (true-false (sym (ap isDone e) ∙ f))
-
-    asked : AllRows (λ a. a ≡ Done n → n ≡ bytes) (askedRows c)
-    asked = asked-all (λ a. a ≡ Done n → n ≡ bytes) (no _ refl) (no _ refl) (no _ refl) (no _ refl) (instructionOf c) (c .generation) (c .operand)
 
 pub done-counted : DoneCounted
 done-counted c serial s n e =

@@ -7,9 +7,10 @@ use Prim.Native.Nat.{ℕ}
 use Rattle.isa.specs.declared.Answer.{Answer}
 use Rattle.isa.specs.declared.Answer.the-variants.{NoOp, Refused}
 use Rattle.isa.specs.declared.Reason.the-variants.{ReservedBits, ReservedMode, LaterGeneration}
-use Rattle.isa.specs.declared.Refusal.the-variants.{NotCovered}
-use Rattle.isa.specs.Call.{Instruction, mac16, vecint, vecfp, fms64, other}
-use Rattle.isa.specs.Answers.{Row, firstOf, askedBy}
+use Rattle.isa.specs.declared.Refusal.the-variants.{StateLength, Generation, Instruction, NotCovered, Serial, LastCount}
+use Rattle.isa.specs.Call.{Call, mac16, vecint, vecfp, fms64, other, instructionOf}
+use Rattle.isa.specs.Call as Calls
+use Rattle.isa.specs.Answers.{Row, firstOf, askedBy, rowsAbove}
 use Rattle.number.proofs.Tests.{two, either, pick-true, pick-false}
 
 abbrev pub AllRows : (Answer → Type 0) → List Row → Type 0
@@ -23,12 +24,19 @@ first-all P (r ∷ rs) a h x = either P (r .applies) (h .0) (first-all P rs a (h
 
 -- the rows by what a call asks for have four answers
 pub asked-all : (P : Answer → Type 0) → P (NoOp ReservedBits) → P (NoOp ReservedMode) → P (NoOp LaterGeneration) → P (Refused NotCovered)
-    → (i : Instruction) (gen op : ℕ) → AllRows P (askedBy i gen op)
+    → (i : Calls.Instruction) (gen op : ℕ) → AllRows P (askedBy i gen op)
 asked-all P a b c d mac16 gen op = tt
 asked-all P a b c d vecint gen op = (a, (b, (c, (d, tt))))
 asked-all P a b c d vecfp gen op = (a, (b, (c, (d, tt))))
 asked-all P a b c d fms64 gen op = (d, tt)
 asked-all P a b c d other gen op = tt
+
+-- and all rows above done have nine, in the order of the table
+pub above-all : (P : Answer → Type 0) → P (Refused StateLength) → P (Refused Generation) → P (Refused Instruction) → P (Refused LastCount)
+    → P (Refused Serial) → P (NoOp ReservedBits) → P (NoOp ReservedMode) → P (NoOp LaterGeneration) → P (Refused NotCovered)
+    → (n count serial : ℕ) (c : Call) → AllRows P (rowsAbove n count serial c)
+above-all P a b d e f g h j k n count serial c =
+    (a, (b, (d, (e, (f, asked-all P g h j k (instructionOf c) (c .generation) (c .operand))))))
 
 -- the rows give an answer, whatever comes after them, or what comes after them does
 pub first-or : (rs : List Row) (a b : Answer) → (firstOf rs a ≡ firstOf rs b) ⊎ (firstOf rs a ≡ a)

@@ -11,7 +11,7 @@ use Rattle.isa.specs.Call.{Call, effectOf}
 use Rattle.isa.specs.State.{countOf}
 use Rattle.isa.specs.Answers.{rowsAbove, answerBy, hostNumber}
 use Rattle.isa.specs.Step.{answerDue, stepDue}
-use Rattle.isa.proofs.Rows.{first-all}
+use Rattle.isa.proofs.Rows.{first-all, above-all}
 use Rattle.isa.proofs.Count.{bytes-most}
 use Rattle.text.specs.Lines.{stepLine}
 use Rattle.text.proofs.Lengths.{step-short}
@@ -21,7 +21,8 @@ answer-number : (s : List ℕ) (c : Call) → hostNumber (answerDue s c) < 2 ^ 6
 unfolding answerBy
 answer-number s c =
     first-all (λ (a : Answer). hostNumber a < 2 ^ 64) (rowsAbove (length s) (countOf s) (countOf s) c) (Done (bytesOn (effectOf c)))
-    (omega arith, (omega arith, (omega arith, (omega arith, (omega arith, (omega arith, (omega arith, (omega arith, (omega arith, tt)))))))))
+    (above-all (λ (a : Answer). hostNumber a < 2 ^ 64) (omega arith) (omega arith) (omega arith) (omega arith) (omega arith) (omega arith) (omega arith)
+    (omega arith) (omega arith) (length s) (countOf s) (countOf s) c)
     (omega (arith, bytes-most (effectOf c)))
 
 pub line-short : (i : ℕ) (s : List ℕ) (c : Call) → i < 2 ^ 64 → length (stepLine i (answerDue s c)) ≤ 55
