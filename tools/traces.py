@@ -551,7 +551,7 @@ def specials(width):
 def pairs(width):
     """The floats of four registers, and 16 more. Pairs of one of each are the cases of an operation."""
     every, e = specials(width), width - 1
-    many = [p | sign << e for sign in (0, 1) for p in every] if width == 32 else [p | i % 2 << e for i, p in enumerate(every)]
+    many = [p | sign << e for sign in (0, 1) for p in every] if width == 32 else [p | (i + 1) % 2 << e for i, p in enumerate(every)]
     few = [p | sign << e for p, sign in zip((every[i] for i in (0, 0, 1, 2, 5, 9, 9, 10, 13, 17, 20, 28, 28, 29, 29, 31)), (0, 1) * 8)]
     return many, few
 
@@ -564,7 +564,7 @@ def packed(width, lanes, size):
 def all_pairs(width, mode):
     """One mode of vecfp on every pair: each step does four registers with one more float, which is a lane of Y, or the old Z."""
     many, few = pairs(width)
-    x, y = packed(width, many, 512), packed(width, many if mode == 12 else few, 512)
+    x, y = (packed(width, lanes, 512) for lanes in ((few, many) if mode == 12 else (many, few)))
     z = b"".join(packed(width, [p] * (512 // width), 64) for p in few) * 4
     form = dict(alu=mode, widths=4 if width == 32 else 7, several=1, four=1)
     casts = dict(value=7) if mode in (4, 10) else {}
