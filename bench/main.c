@@ -1,5 +1,5 @@
 // The proved unit against the C version, built for the baseline target and for this machine, in one run.
-// First all do the same random steps, the last version with the normal operand, and every answer and byte is compared; then forms of both instructions are timed, and mixed lists.
+// First all do the same random steps, the last version with the normal operand, and every answer and byte is compared; then forms of the instructions are timed, and mixed lists.
 // The buffers start equal and are not cleared between the runs. Ratios are of medians of interleaved runs; below 1 the proved unit is faster.
 #include <stdint.h>
 #include <stdio.h>
@@ -15,7 +15,7 @@ struct call { uint64_t length, instruction, generation, operand; };
 
 // room for a state and more, in whole cache lines: the rows of all versions lie alike in theirs
 enum { LENGTH = AMX_STATE_LENGTH, ROOM = (LENGTH + 63) / 64 * 64, VERSIONS = 3, RUNS = 61, RANDOM_STEPS = 1000000, MIXED = 4000, OFFSETS = 7 };
-enum { MAC16 = 14, VECINT = 18, NO_OP = 65536, REFUSED = 131072 };
+enum { FMS64 = 11, MAC16 = 14, VECINT = 18, VECFP = 19, NO_OP = 65536, REFUSED = 131072 };
 static step *const version[VERSIONS] = {amx_step, unit_baseline, unit_native};
 static uint8_t state[VERSIONS][ROOM];
 
@@ -31,18 +31,58 @@ static uint64_t put(uint64_t operand, int first, int last, uint64_t value) {
     return (operand & ~(ones << first)) | value << first;
 }
 
+static void set(int at, uint8_t byte) {
+    for (int v = 0; v < VERSIONS; v++) state[v][at] = byte;
+}
+
 // random bytes, or the bytes of numbers at the ends of their ranges
 static void fill(int ends) {
     static const uint8_t end[8] = {0, 0, 1, 0x7f, 0x80, 0xfe, 0xff, 0xff};
-    for (int i = 0; i < ROOM; i++) {
-        uint8_t byte = ends ? end[below(8)] : below(256);
-        for (int v = 0; v < VERSIONS; v++) state[v][i] = byte;
+    for (int i = 0; i < ROOM; i++) set(i, ends ? end[below(8)] : below(256));
+}
+
+// A float of so many fraction bits and exponent bits: exponents of zeros, subnormals, infinities and NaNs, those whose products overflow or become
+// subnormal, and those that differ little; fractions at the ends of their range, or short ones, whose products are often ties.
+static uint64_t special(int fractions, int exponents) {
+    uint64_t last = (1ull << exponents) - 1, bias = last / 2, ones = (1ull << fractions) - 1, exponent, fraction = next() & ones;
+    switch (below(10)) {
+    case 0: exponent = 0; break;
+    case 1: exponent = last; break;
+    case 2: exponent = 1 + below(2); break;
+    case 3: exponent = last - 1 - below(2); break;
+    case 4: exponent = bias / 2 + below(fractions); break;
+    case 5: exponent = bias + bias / 2 + below(4); break;
+    case 6: exponent = below(last); break;
+    default: exponent = bias + below(fractions + 3);
     }
+    switch (below(6)) {
+    case 0: fraction = 0; break;
+    case 1: fraction = 1; break;
+    case 2: fraction = ones; break;
+    case 3: fraction = ones / 2 + 1; break;
+    case 4: fraction &= ones << (fractions - below(2)) / 2; break;
+    }
+    return (below(2) << exponents | exponent) << fractions | fraction;
+}
+
+static void fill_special(int width) {
+    fill(0);
+    for (int at = 0; at < AMX_COUNT_AT; at += width) {
+        uint64_t lane = width == 4 ? special(23, 8) : special(52, 11);
+        for (int i = 0; i < width; i++) set(at + i, lane >> 8 * i);
+    }
+}
+
+// floats that are finite and normal at either width and at any offset, and so are their products
+static void fill_normal(void) {
+    for (int i = 0; i < AMX_COUNT_AT; i++) set(i, 0x30 + below(32) + 128 * below(2));
 }
 
 static void set_count(uint64_t count) {
     for (int v = 0; v < VERSIONS; v++) memcpy(state[v] + AMX_COUNT_AT, &count, sizeof count);
 }
+
+static int is_float(struct call c) { return c.instruction == VECFP || c.instruction == FMS64; }
 
 static int indexed(struct call c) { return c.instruction == VECINT && c.operand >> 53 & 1; }
 
@@ -57,12 +97,42 @@ static uint64_t vecint_operand(unsigned loads) {
     return operand;
 }
 
-static struct call draw(unsigned loads) {
-    static const uint64_t instruction[] = {0, 13, 15, 17, 19, (1ull << 32) + MAC16, (1ull << 8) + VECINT};
+// an operand that vecfp mostly does
+static uint64_t vecfp_operand(void) {
+    static const uint64_t mode[] = {4, 10, 11, 12}, width[] = {4, 7};
+    uint64_t operand = put(next(), 53, 56, 0);
+    operand = put(operand, 47, 52, below(16) ? mode[below(4)] : below(13));
+    if (below(16)) operand = put(operand, 42, 45, width[below(2)]);
+    if (below(16)) operand = put(operand, 27, 30, 0);
+    if (below(2)) operand = put(operand, 32, 36, below(8));
+    if (below(3) == 0) operand = put(operand, 38, 40, 0);
+    return operand;
+}
+
+// an operand that fms64 mostly does
+static uint64_t fms64_operand(void) {
+    uint64_t operand = below(16) ? put(next(), 27, 29, 2 + below(6)) : next();
+    if (below(2)) operand = put(operand, 41, 45, below(9));
+    if (below(2)) operand = put(operand, 32, 36, below(9));
+    return operand;
+}
+
+// a step of vecfp or fms64, mostly with offsets of whole lanes
+static struct call draw_float(void) {
+    struct call c = {LENGTH, below(3) ? VECFP : FMS64, below(3) ? 2 : 1, next()};
+    if (below(16)) c.operand = c.instruction == VECFP ? vecfp_operand() : fms64_operand();
+    if (below(4)) c.operand &= ~(7ull << 10 | 7);
+    return c;
+}
+
+// a step, `floats` of four one of vecfp or fms64
+static struct call draw(unsigned loads, unsigned floats) {
+    static const uint64_t instruction[] = {0, 10, 12, 13, 15, 17, 20, (1ull << 32) + MAC16, (1ull << 8) + VECINT, (1ull << 32) + FMS64, (1ull << 8) + VECFP};
     static const uint64_t generation[] = {0, 3, 4, (1ull << 32) + 1, (1ull << 8) + 2}, length[] = {LENGTH - 1, LENGTH + 1, AMX_COUNT_AT};
     struct call c = {LENGTH, below(3) ? VECINT : MAC16, 1 + below(2), next()};
     if (c.instruction == VECINT && below(16)) c.operand = vecint_operand(loads);
-    if (below(64) == 0) c.instruction = below(8) ? instruction[below(7)] : next();
+    if (below(4) < floats) c = draw_float();
+    if (below(64) == 0) c.instruction = below(8) ? instruction[below(11)] : next();
     if (below(64) == 0) c.generation = below(8) ? generation[below(5)] : next();
     if (below(64) == 0) c.length = below(2) ? below(ROOM) : length[below(3)];
     return c;
@@ -99,14 +169,15 @@ static void differ(const char *what, int n, struct call c, uint64_t count, uint6
 }
 
 static void compare(void) {
-    int done = 0, no_op[4] = {0}, refused[10] = {0};
+    int done = 0, floats = 0, no_op[4] = {0}, refused[10] = {0};
     for (int n = 0; n < RANDOM_STEPS; n++) {
         if (n % 64 == 0) {
-            fill(n / 64 % 2);
+            if (n / 64 % 4 < 2) fill(n / 64 % 2);
+            else fill_special(n / 64 % 2 ? 8 : 4);
             if (below(64) == 0) set_count(UINT64_MAX - below(64));
             else if (below(4) == 0) set_count(0);
         }
-        struct call c = draw(1), normal = c;
+        struct call c = draw(1, 2), normal = c;
         normal.operand = amx_normal_operand(c.instruction, c.generation, c.operand);
         uint64_t count = count_of(0), serial = draw_serial(count), answer = run(0, c, serial);
         for (int v = 1; v < VERSIONS; v++)
@@ -115,11 +186,12 @@ static void compare(void) {
         int of_call = c.length == LENGTH && answer != REFUSED + 8 && answer != REFUSED + 9;
         if (of_call && asked != (answer < NO_OP ? 0 : answer)) differ("the normal operand is answered otherwise", n, c, count, serial);
         if (normal.operand != amx_normal_operand(c.instruction, c.generation, normal.operand)) differ("the normal operand is not normal", n, c, count, serial);
+        floats += answer < NO_OP && is_float(c);
         if (answer < NO_OP) done++;
         else if (answer < REFUSED) no_op[answer - NO_OP]++;
         else refused[answer - REFUSED]++;
     }
-    printf("%d random steps: same bytes, same answers\ndone %d", RANDOM_STEPS, done);
+    printf("%d random steps: same bytes, same answers\ndone %d, of these %d of vecfp and fms64", RANDOM_STEPS, done, floats);
     for (int i = 1; i < 4; i++) printf(", no-op %d: %d", i, no_op[i]);
     static const int refusal[] = {1, 2, 3, 4, 8, 9};
     for (int i = 0; i < 6; i++) printf(", refused %d: %d", refusal[i], refused[refusal[i]]);
@@ -169,15 +241,31 @@ static uint64_t vec(uint64_t mode, uint64_t width) { return 1ull << 63 | mode <<
 // X or Y by indices of 4 bits into its register 3
 static uint64_t vec_indexed(uint64_t y, uint64_t width) { return vec(0, width) | 1ull << 53 | 3ull << 49 | 1ull << 48 | y << 47; }
 
-// done steps without an indexed load, or with one in each
-static void mixed(const char *form, unsigned loads) {
+// done steps without an indexed load, or with one in each; half of them of vecfp and fms64, or none
+static void mixed(const char *form, unsigned loads, int floats) {
     static struct call list[MIXED];
     for (int n = 0; n < MIXED;) {
-        list[n] = draw(loads);
-        if (indexed(list[n]) == (loads > 0) && run(1, list[n], count_of(1)) < NO_OP) n++;
+        list[n] = draw(loads, floats ? 2 : 0);
+        if (indexed(list[n]) == (loads > 0) && run(1, list[n], count_of(1)) < NO_OP && (floats || !is_float(list[n]))) n++;
     }
-    fill(0);
+    if (floats) fill_normal();
+    else fill(0);
     measure(form, list, MIXED, 1);
+}
+
+// the rows of Z anew, since a sum of the last form's would leave the normal floats of another width
+static void one_float(const char *form, uint64_t instruction, uint64_t operand, int times) {
+    fill_normal();
+    one(form, instruction, operand, times);
+}
+
+static void vecfp(const char *lanes, uint64_t width) {
+    static const uint64_t mode[] = {10, 11, 12, 4};
+    for (int i = 0; i < 4; i++) {
+        char form[32];
+        snprintf(form, sizeof form, "vecfp, %s, mode %d", lanes, (int)mode[i]);
+        one_float(form, VECFP, mode[i] << 47 | width << 42, 6000);
+    }
 }
 
 int main(void) {
@@ -200,8 +288,13 @@ int main(void) {
     one("vecint, reducing 8 to 8", VECINT, vec(4, 9) | 7ull << 58 | 3ull << 29, 6000);
     one("vecint, reducing 16 to 16", VECINT, vec(4, 0) | 7ull << 58 | 3ull << 29, 6000);
     one("vecint, mode 5", VECINT, vec(5, 0), 6000);
-    mixed("both, 4,000 mixed steps", 0);
+    mixed("both, 4,000 mixed steps", 0, 0);
     one("vecint, 16 16 16, indexed X", VECINT, vec_indexed(0, 0), 6000);
     one("vecint, 8 8 32, indexed Y", VECINT, vec_indexed(1, 10), 3000);
-    mixed("vecint, 4,000 indexed steps", 4);
+    mixed("vecint, 4,000 indexed steps", 4, 0);
+    vecfp("single", 4);
+    vecfp("double", 7);
+    one_float("fms64, vector, z - x", FMS64, 1ull << 63 | 1ull << 28, 6000);
+    one_float("fms64, matrix, z - x", FMS64, 1ull << 28, 1500);
+    mixed("all four, 4,000 mixed steps", 0, 1);
 }

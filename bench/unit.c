@@ -104,8 +104,8 @@ static uint64_t mac16(uint8_t *state, uint64_t op) {
 
 enum { NO_OP = 65536, REFUSED = 131072, ROUND = 1 << 14, LENGTH = 5128, COUNT = 5120 };
 
-// what a vecint operand says; widths in bytes
-struct vecint {
+// what an operand of vecint or vecfp says; widths in bytes. Shifts, saturation, signs and indices are vecint's.
+struct vec {
     unsigned mode, shift;
     int x, y, z, saturation;    // lane widths
     int lanes, rows;            // of a vector: lanes at the narrower of X and Y, and the rows that they are dealt to
@@ -118,7 +118,7 @@ struct vecint {
     uint8_t from;               // the register that indices choose from
 };
 
-static void widths(struct vecint *v, unsigned number) {
+static void widths(struct vec *v, unsigned number) {
     static const uint8_t xyz[16][3] = {[3] = {2, 2, 4}, [10] = {1, 1, 4}, [11] = {1, 1, 2}, [12] = {1, 2, 4}, [13] = {2, 1, 4}};
     static const uint8_t reduction[16][2] = {[3] = {4, 2}, [4] = {4, 4}, [9] = {1, 1}, [10] = {4, 1}, [11] = {2, 1}};
     v->x = v->y = v->z = v->saturation = 2;
@@ -134,46 +134,56 @@ static void widths(struct vecint *v, unsigned number) {
     v->rows = v->z / narrower;
 }
 
-static struct vecint decode(uint64_t op, unsigned mode, bool several) {
-    struct vecint v = {.mode = mode, .shift = field(op, 58, 62), .xstep = 64, .ystep = 64, .xlane = -1, .ylane = -1,
-                       .xsigned = bit(op, 63), .ysigned = bit(op, 26)};
+// The rows and sides of the vectors, whose widths and steps are set; n is the enable value.
+static inline void vectors(struct vec *v, uint64_t op, bool several, unsigned n) {
+    unsigned enable = field(op, 38, 40);
+    v->stride = !several ? 64 : bit(op, 25) ? 16 : 32;
+    v->row = (field(op, 20, 25) & (v->stride - 1)) & -v->rows;
+    v->xlane = v->ylane = -1;
+    if (several) {
+        unsigned broadcast = n & 7;
+        v->force = broadcast == 1;
+        v->xzero = broadcast == 4;
+        v->yzero = broadcast == 5;
+        if (broadcast == 2 || broadcast == 6) v->xstep = 0;
+        if (broadcast == 3 || broadcast == 7) v->ystep = 0;
+        if (broadcast == 6) v->xlane = 0;
+        if (broadcast == 7) v->ylane = 0;
+    } else if (enable == 0) {
+        v->force = n == 3;
+        v->xzero = n == 4;
+        v->yzero = n == 5;
+    } else if (enable == 1) v->ylane = n % (64 / v->y);
+}
+
+static struct vec decode(uint64_t op, unsigned mode, bool several) {
+    struct vec v = {.mode = mode, .shift = field(op, 58, 62), .xstep = 64, .ystep = 64, .xsigned = bit(op, 63), .ysigned = bit(op, 26)};
     widths(&v, field(op, 42, 45));
-    v.stride = !several ? 64 : bit(op, 25) ? 16 : 32;
-    v.row = (field(op, 20, 25) & (v.stride - 1)) & -v.rows;
     if (bit(op, 53)) {
         int bits = bit(op, 48) ? 4 : 2;
         v.from = field(op, 49, 51);
         if (bit(op, 47)) v.yindex = bits, v.ystep = 8 * bits / v.y;
         else v.xindex = bits, v.xstep = 8 * bits / v.x;
     }
-    unsigned enable = field(op, 38, 40), n = field(op, 32, 37);
-    if (several) {
-        unsigned broadcast = n & 7;
-        v.force = broadcast == 1;
-        v.xzero = broadcast == 4;
-        v.yzero = broadcast == 5;
-        if (broadcast == 2 || broadcast == 6) v.xstep = 0;
-        if (broadcast == 3 || broadcast == 7) v.ystep = 0;
-        if (broadcast == 6) v.xlane = 0;
-        if (broadcast == 7) v.ylane = 0;
-    } else if (enable == 0) {
-        v.force = n == 3;
-        v.xzero = n == 4;
-        v.yzero = n == 5;
-    } else if (enable == 1) v.ylane = n % (64 / v.y);
+    vectors(&v, op, several, field(op, 32, 37));
     return v;
+}
+
+// The lanes of a mask that are on: those from `from` to before `to`, without the even (0) or odd (1) ones.
+static inline void enabled_range(unsigned enable, int n, int count, int *from, int *to, int *skipped) {
+    *from = 0, *to = count, *skipped = 2;
+    if (n > count) n = count;
+    if (enable == 0 && n == 1) *skipped = 0;
+    else if (enable == 0 && n == 2) *skipped = 1;
+    else if (enable > 5 || (enable == 0 && n > 5)) *to = 0;
+    else if (enable == 4 || (enable == 2 && n)) *to = n;
+    else if (enable == 5 || (enable == 3 && n)) *from = count - n;
 }
 
 // The mask of a vector's lanes, all ones or all zeros: count of them at the mask's own width, each used for `times` lanes. Returns how many are on.
 static int lane_mask(int32_t *mask, unsigned enable, int n, int count, int times) {
-    int from = 0, to = count, skipped = 2;
-    if (n > count) n = count;
-    if (enable == 0 && n == 1) skipped = 0;
-    else if (enable == 0 && n == 2) skipped = 1;
-    else if (enable > 5 || (enable == 0 && n > 5)) to = 0;
-    else if (enable == 4 || (enable == 2 && n)) to = n;
-    else if (enable == 5 || (enable == 3 && n)) from = count - n;
-    int on = 0;
+    int from, to, skipped, on = 0;
+    enabled_range(enable, n, count, &from, &to, &skipped);
     for (int k = 0; k < count * times; k++) {
         int i = times == 2 ? k / 2 : k;
         mask[k] = -(i >= from && i < to && (i & 1) != skipped);
@@ -245,7 +255,7 @@ static void products(int32_t *restrict to, const int32_t *restrict x, const int3
 }
 
 // What is added to Z or stored there, modulo 2^32.
-static void terms(int32_t *restrict to, const int32_t *restrict x, const int32_t *restrict y, const struct vecint *v) {
+static void terms(int32_t *restrict to, const int32_t *restrict x, const int32_t *restrict y, const struct vec *v) {
     int n = v->lanes;
     unsigned s = v->shift;
     bool positive = !v->xsigned && !v->ysigned;
@@ -287,7 +297,7 @@ static inline void add16(uint8_t *restrict z, const int32_t *restrict term, cons
     memcpy(z, old, 64);
 }
 
-static void add(uint8_t *z, const int32_t *term, const int32_t *mask, const struct vecint *v) {
+static void add(uint8_t *z, const int32_t *term, const int32_t *mask, const struct vec *v) {
     int32_t keep = v->mode == 10 || v->force ? 0 : -1;
     if (v->mode == 5 || v->mode == 6) add16(z, term, mask, 1, keep, true);
     else if (v->rows == 1) add16(z, term, mask, 1, keep, false);
@@ -301,7 +311,7 @@ static void add(uint8_t *z, const int32_t *term, const int32_t *mask, const stru
 
 // ALU mode 4 on a row of Z. Numbers of up to 16 bits, with what rounding adds, fit an int32_t.
 #define REDUCE(BITS, NUMBER) \
-    static void reduce##BITS(uint8_t *restrict z, const int32_t *restrict mask, uint64_t op, const struct vecint *v) { \
+    static void reduce##BITS(uint8_t *restrict z, const int32_t *restrict mask, uint64_t op, const struct vec *v) { \
         enum { LANES = 512 / BITS }; \
         uint##BITS##_t old[LANES]; \
         NUMBER new[LANES], round = bit(op, 29) && v->shift ? 1u << (v->shift - 1) : 0; \
@@ -327,7 +337,7 @@ static uint64_t vecint(uint8_t *state, unsigned generation, uint64_t op) {
     if (mode >= 10 && generation == 1) return NO_OP + 3;
     if (mode != 4 && field(op, 27, 30)) return REFUSED + 4;
     bool several = generation == 2 && bit(op, 31);
-    struct vecint v = decode(op, mode, several);
+    struct vec v = decode(op, mode, several);
     int32_t x[64], y[64], term[64], mask[64];
     unsigned enable = several ? 1 : field(op, 38, 40), value = field(op, 32, 37);
     int count = mode == 4 ? v.lanes : 64 / v.x;
@@ -352,15 +362,151 @@ static uint64_t vecint(uint8_t *state, unsigned generation, uint64_t op) {
     return on * v.z * (64 / v.stride);
 }
 
+// 64 bytes round a ring of 512: where they lie, or in the room given where they wrap.
+static inline const uint8_t *bytes_at(uint8_t *room, const uint8_t *ring, unsigned offset) {
+    if (offset <= 448) return ring + offset;
+    load(room, ring, offset);
+    return room;
+}
+
+// What an operation gives: a NaN is the default one.
+static inline uint32_t bits32(float f) {
+    uint32_t bits;
+    memcpy(&bits, &f, sizeof bits);
+    return f == f ? bits : 0x7fc00000;
+}
+
+static inline uint64_t bits64(double f) {
+    uint64_t bits;
+    memcpy(&bits, &f, sizeof bits);
+    return f == f ? bits : 0x7ff8000000000000;
+}
+
+#define EACH(COUNT) _Pragma("GCC unroll 1") for (int i = 0; i < COUNT; i++) // unrolled, gcc does one lane at a time
+// the enabled lanes of a row take these bits
+#define STORE(COUNT, BITS) EACH(COUNT) old[i] = ((BITS) & mask[i]) | (old[i] & ~mask[i])
+
+// The vectors of vecfp at a lane width: a side's lanes, a vector, all vectors. What is moved passes through no float. In mode 4 a mask is used for the
+// choice, since gcc would test lane by lane.
+#define VECFP(BITS, FLOAT) \
+    static inline void side##BITS(uint##BITS##_t *restrict to, const uint8_t *ring, unsigned offset, int lane, bool zero) { \
+        uint8_t room[64]; \
+        memcpy(to, bytes_at(room, ring, offset & 511), 64); \
+        if (lane >= 0) { \
+            uint##BITS##_t one = to[lane]; \
+            EACH(512 / BITS) to[i] = one; \
+        } \
+        if (zero) memset(to, 0, 64); \
+    } \
+    \
+    static void vector##BITS(uint8_t *restrict z, const uint##BITS##_t *restrict xbits, const uint##BITS##_t *restrict ybits, \
+                             const int##BITS##_t *restrict mask, unsigned mode, bool force) { \
+        enum { LANES = 512 / BITS }; \
+        FLOAT x[LANES], y[LANES], sum[LANES]; \
+        uint##BITS##_t old[LANES]; \
+        memcpy(x, xbits, 64); \
+        memcpy(y, ybits, 64); \
+        memcpy(sum, z, 64); \
+        memcpy(old, z, 64); \
+        if (force) STORE(LANES, 0); \
+        else if (mode == 10) STORE(LANES, bits##BITS(x[i] * y[i])); \
+        else if (mode == 11) STORE(LANES, bits##BITS(sum[i] + x[i])); \
+        else if (mode == 12) STORE(LANES, bits##BITS(sum[i] + y[i])); \
+        else STORE(LANES, ybits[i] & (x[i] <= 0 ? 0 : ~(uint##BITS##_t)0)); \
+        memcpy(z, old, 64); \
+    } \
+    \
+    static uint64_t vectors##BITS(uint8_t *state, uint64_t op, struct vec *v, bool several) { \
+        enum { LANES = 512 / BITS }; \
+        unsigned n = field(op, 32, 36), xoffset = field(op, 10, 18), yoffset = field(op, 0, 8); \
+        uint##BITS##_t x[LANES], y[LANES]; \
+        int##BITS##_t mask[LANES]; \
+        int from, to, skipped, on = 0; \
+        enabled_range(several ? 1 : field(op, 38, 40), n, LANES, &from, &to, &skipped); \
+        EACH(LANES) { \
+            int32_t one = -(i >= from && i < to && (i & 1) != skipped); \
+            mask[i] = one; \
+            on -= one; \
+        } \
+        vectors(v, op, several, n); \
+        for (int row = v->row; row < 64; row += v->stride, xoffset += v->xstep, yoffset += v->ystep) { \
+            side##BITS(x, state, xoffset, v->xlane, v->xzero); \
+            side##BITS(y, state + 512, yoffset, v->ylane, v->yzero); \
+            vector##BITS(state + 1024 + 64 * row, x, y, mask, v->mode, v->force); \
+        } \
+        return on * (BITS / 8) * (64 / v->stride); \
+    }
+VECFP(32, float)
+VECFP(64, double)
+
+static uint64_t vecfp(uint8_t *state, unsigned generation, uint64_t op) {
+    if (field(op, 54, 56)) return NO_OP + 1;
+    unsigned mode = bit(op, 53) ? 0 : field(op, 47, 52), number = field(op, 42, 45);
+    bool known = mode < 2 || mode == 4 || mode == 5 || mode == 7 || (mode >= 10 && mode <= 12);
+    if (!known) return NO_OP + 2;
+    if (mode >= 10 && generation == 1) return NO_OP + 3;
+    if ((mode != 4 && mode < 10) || (number != 4 && number != 7) || field(op, 27, 30)) return REFUSED + 4;
+    bool several = generation == 2 && bit(op, 31);
+    struct vec v = {.mode = mode, .y = number == 4 ? 4 : 8, .rows = 1, .xstep = 64, .ystep = 64};
+    return (number == 4 ? vectors32 : vectors64)(state, op, &v, several);
+}
+
+// the lanes of eight in a side of fms64 that are on, a bit for each
+static unsigned lane_set(unsigned mode, unsigned n) {
+    switch (mode) {
+    case 0: return n == 0 ? 255 : n == 1 ? 0xaa : n == 2 ? 0x55 : 0;
+    case 1: return n < 8 ? 1 << n : 0;
+    case 2: return n == 0 || n >= 8 ? 255 : 255 >> (8 - n);
+    default: return n == 0 || n >= 8 ? 255 : 255 & 255 << (8 - n);
+    }
+}
+
+// A row of fms64: what is taken from Z, or stored with its sign flipped, is of X or of Y.
+static void row64(uint8_t *restrict z, const uint64_t *restrict side, const uint64_t *restrict mask, bool none, bool keep) {
+    uint64_t old[8];
+    double from[8], taken[8];
+    memcpy(old, z, 64);
+    memcpy(from, z, 64);
+    memcpy(taken, side, 64);
+    if (none) STORE(8, 1ull << 63);
+    else if (keep) STORE(8, bits64(from[i] - taken[i]));
+    else STORE(8, side[i] ^ 1ull << 63);
+    memcpy(z, old, 64);
+}
+
+static uint64_t fms64(uint8_t *state, uint64_t op) {
+    bool skipx = bit(op, 29), skipy = bit(op, 28), keep = !bit(op, 27), none = skipx && skipy;
+    if (!skipx && !skipy) return REFUSED + 4;
+    unsigned xon = lane_set(field(op, 46, 47), field(op, 41, 45)), yon = bit(op, 63) ? 1 : lane_set(field(op, 37, 38), field(op, 32, 36));
+    uint64_t bytes = 8 * __builtin_popcount(xon) * __builtin_popcount(yon);
+    if (none && keep) return bytes; // z stays
+    uint8_t room[64], *z = state + 1024;
+    uint64_t x[8], y[8], same[8], mask[8];
+    memcpy(x, bytes_at(room, state, field(op, 10, 18)), 64);
+    memcpy(y, bytes_at(room, state + 512, field(op, 0, 8)), 64);
+    for (int i = 0; i < 8; i++) mask[i] = -(uint64_t)(xon >> i & 1);
+    if (bit(op, 63)) {
+        row64(z + 64 * field(op, 20, 25), skipy ? x : y, mask, none, keep);
+        return bytes;
+    }
+    for (int j = 0; j < 8; j++) {
+        if (!(yon >> j & 1)) continue;
+        EACH(8) same[i] = y[j];
+        row64(z + 64 * (8 * j + field(op, 20, 22)), skipy ? x : same, mask, none, keep);
+    }
+    return bytes;
+}
+
 uint64_t NAME(uint8_t *state, uint64_t length, uint64_t instruction, uint64_t generation, uint64_t operand, uint64_t serial) {
     if (length != LENGTH) return REFUSED + 1;
     if (generation != 1 && generation != 2) return REFUSED + 2;
-    if (instruction != 14 && instruction != 18) return REFUSED + 3;
+    if (instruction != 11 && instruction != 14 && instruction != 18 && instruction != 19) return REFUSED + 3;
     uint64_t count;
     memcpy(&count, state + COUNT, sizeof count);
     if (count == UINT64_MAX) return REFUSED + 9;
     if (serial != count) return REFUSED + 8;
-    uint64_t answer = instruction == 14 ? mac16(state, operand) : vecint(state, generation, operand);
+    uint64_t answer = instruction == 14 ? mac16(state, operand) : instruction == 18 ? vecint(state, generation, operand)
+                    : instruction == 19 ? vecfp(state, generation, operand) : fms64(state, operand);
     if (answer < REFUSED) {
         count++;
         memcpy(state + COUNT, &count, sizeof count);

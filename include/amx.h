@@ -1,4 +1,5 @@
-// The AMX integer unit: libamx.a, for x86-64. Every function takes every argument, keeps nothing and calls back to nothing.
+// Four instructions of the AMX unit, two on integers and two on floats: libamx.a, for x86-64. Every function takes every argument, keeps nothing
+// and calls back to nothing.
 #ifndef AMX_H
 #define AMX_H
 #include <stdint.h>
@@ -15,8 +16,17 @@ extern "C" {
 // The length in bytes of a trace's third section, its checkpoint: the steps consumed, a little-endian u32, then the state.
 #define AMX_CHECKPOINT_LENGTH 5132
 
-// Instructions: 14 is mac16, 18 is vecint. Generations: 1 is M1, 2 is M2. vecint with a shuffle (bits 27..30 not all 0 outside ALU mode 4) is
-// not covered and refused 4; with an indexed load (bit 53) it is done as ALU mode 0.
+// Instructions: 11 is fms64, 14 is mac16, 18 is vecint, 19 is vecfp. Generations: 1 is M1, 2 is M2. Not covered, and refused 4:
+// - fms64 where neither X nor Y is skipped (bits 28 and 29 both 0);
+// - vecint with a shuffle (bits 27..30 not all 0 outside ALU mode 4); with an indexed load (bit 53) it is done as ALU mode 0;
+// - vecfp with an indexed load (bit 53), in ALU modes 0, 1, 5 and 7, at lane widths other than single and double (numbers 4 and 7 in bits
+//   42..45), or with a shuffle (bits 27..30 not all 0, in ALU mode 4 too).
+//
+// The result of a float lane is one operation's, rounded once to nearest, ties to even, with subnormals kept; a NaN that an operation gives is
+// the default one, 0x7FC00000 or 0x7FF8000000000000. For this the host must keep the floating-point environment of the calling thread as a
+// program starts with it: rounding to nearest, no flush to zero (FTZ) and no denormals-are-zero (DAZ), exceptions masked; MXCSR, but for its
+// flags, is 0x1F80. amx_step neither sets nor restores any of it, and nothing that is proved covers another setting: float lanes may then be
+// wrong. The exception flags in MXCSR may be raised by a step.
 
 // One step on a lent state. The bytes are the caller's: they are read and written during the call only, and no other call may use them
 // meanwhile. `state` points to `length` bytes; it may be any pointer that is not null where `length` is 0. A length other than

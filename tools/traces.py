@@ -1,15 +1,16 @@
 #!/usr/bin/env python3
 """The stored traces and the text that each must print.
 
-A second source: both instructions, the answers and the trace file are written here from the scope paper and its changes alone,
-and share nothing with the crates.
+A second source: the four instructions, the answers and the trace file are written here from the scope paper and its changes alone,
+and share nothing with the crates. Floats are worked out exactly, in whole numbers, and rounded once: no float of Python's is used.
 Run from the top of the repository, it writes data/, args and stdout of the programs crates/amx_trace and crates/traces anew.
 """
 import pathlib
 import random
 import struct
 
-REGISTERS, MAC16, VECINT = 5120, 14, 18
+REGISTERS = 5120
+FMS64, MAC16, VECINT, VECFP = 11, 14, 18, 19
 LAST = (1 << 64) - 1
 # a state, and a trace's third section: the steps consumed, then the state
 STATE = REGISTERS + 8
@@ -46,21 +47,23 @@ def z_row(state, row):
 
 # ---- lanes
 
-def both_enable(mode, n, k, lanes):
-    """Whether lane k is on, in the enable modes that both instructions have: 0, 2 and 3."""
+def common_enable(mode, n, k, lanes):
+    """Whether lane k is on, in the enable modes that all instructions have: 0, 2 and 3."""
     if mode == 0:
         return n == 0 or n in (1, 2) and k % 2 == n % 2
     return n == 0 or (k < n if mode == 2 else k >= lanes - n)
 
 
-def mac16_enable(mode, n, k):
-    return k == n if mode == 1 else both_enable(mode, n, k, 32)
+def matrix_enable(mode, n, k, lanes):
+    """The enable modes of mac16 and fms64."""
+    return k == n if mode == 1 else common_enable(mode, n, k, lanes)
 
 
-def vecint_enable(mode, n, k, lanes):
+def vector_enable(mode, n, k, lanes):
+    """The enable modes of vecint and vecfp."""
     if mode < 4:
-        return mode == 1 or mode == 0 and n in (3, 4, 5) or both_enable(mode, n, k, lanes)
-    return mode < 6 and n > 0 and both_enable(mode - 2, n, k, lanes)
+        return mode == 1 or mode == 0 and n in (3, 4, 5) or common_enable(mode, n, k, lanes)
+    return mode < 6 and n > 0 and common_enable(mode - 2, n, k, lanes)
 
 
 # ---- mac16
@@ -74,8 +77,8 @@ def mac16(state, op):
     """Runs a done step and gives the number of Z bytes in its enabled lanes."""
     x = factors(state, 0, bits(op, 10, 9), bits(op, 61, 1))
     y = factors(state, 512, bits(op, 0, 9), bits(op, 60, 1))
-    x_on = [i for i in range(32) if mac16_enable(bits(op, 46, 2), bits(op, 41, 5), i)]
-    y_on = [j for j in range(32) if mac16_enable(bits(op, 37, 2), bits(op, 32, 5), j)]
+    x_on = [i for i in range(32) if matrix_enable(bits(op, 46, 2), bits(op, 41, 5), i, 32)]
+    y_on = [j for j in range(32) if matrix_enable(bits(op, 37, 2), bits(op, 32, 5), j, 32)]
     skip_x, skip_y, skip_z, z = bits(op, 29, 1), bits(op, 28, 1), bits(op, 27, 1), bits(op, 20, 6)
     if bits(op, 63, 1):
         places = [(i, i, z, 16, i) for i in x_on]
@@ -134,7 +137,7 @@ def reduced(op, z, saturation):
 
 def vector_4(state, op, row, enable, value, zero):
     width, saturation = SATURATIONS.get(bits(op, 42, 4), (16, 16))
-    on = [k for k in range(512 // width) if vecint_enable(enable, value, k, 512 // width)]
+    on = [k for k in range(512 // width) if vector_enable(enable, value, k, 512 // width)]
     for k in on:
         z = number(z_row(state, row), width, k, bits(op, 63, 1))
         store(state, row, width, k, 0 if zero else reduced(op, z, saturation))
@@ -148,7 +151,7 @@ def vector(state, op, mode, widths, row, x, y, x_lane, y_lane, enable, value, ze
     r = z_width // narrow
 
     def allowed(k, width):
-        return vecint_enable(enable, value, k * narrow // width, 512 // width)
+        return vector_enable(enable, value, k * narrow // width, 512 // width)
 
     on = [k for k in range(512 // narrow) if allowed(k, x_width) and allowed(k, y_width)]
     for k in on:
@@ -160,15 +163,19 @@ def vector(state, op, mode, widths, row, x, y, x_lane, y_lane, enable, value, ze
     return len(on) * z_width // 8
 
 
-def vecint(state, generation, op):
-    mode, z = alu_mode(op), bits(op, 20, 6)
-    widths = (16, 16, 16) if mode in (5, 6) else WIDTHS.get(bits(op, 42, 4), (16, 16, 16))
+def vectors(generation, op, value):
+    """The row of each vector, the enable mode and its value, and the broadcast mode, which stands for the overrides of a single vector too."""
+    z, enable = bits(op, 20, 6), bits(op, 38, 3)
     if generation == 2 and bits(op, 31, 1):
         stride = 16 if bits(op, 25, 1) else 32
-        rows, enable, value, cast = range(z % stride, 64, stride), 0, 0, bits(op, 32, 3)
-    else:
-        rows, enable, value = [z], bits(op, 38, 3), bits(op, 32, 6)
-        cast = {3: 1, 4: 4, 5: 5}.get(value, 0) if enable == 0 else 0
+        return range(z % stride, 64, stride), 0, 0, bits(op, 32, 3)
+    return [z], enable, value, {3: 1, 4: 4, 5: 5}.get(value, 0) if enable == 0 else 0
+
+
+def vecint(state, generation, op):
+    mode = alu_mode(op)
+    widths = (16, 16, 16) if mode in (5, 6) else WIDTHS.get(bits(op, 42, 4), (16, 16, 16))
+    rows, enable, value, cast = vectors(generation, op, bits(op, 32, 6))
     x_lane = 0 if cast == 6 else None
     y_lane = 0 if cast == 7 else value if enable == 1 else None
     count = 0
@@ -180,6 +187,150 @@ def vecint(state, generation, op):
         y = bytes(64) if cast == 5 else side(state, op, 512, bits(op, 0, 9), widths[1], v, cast in (3, 7))
         count += vector(state, op, mode, widths, row, x, y, x_lane, y_lane, enable, value, cast == 1)
     return count
+
+
+# ---- floats, given as patterns
+
+FORMATS = {32: (8, 23), 64: (11, 52)}  # bits of the exponent and of the fraction, by lane width
+
+
+def pattern(width, sign, exponent, fraction):
+    e, f = FORMATS[width]
+    return (sign << e | exponent) << f | fraction
+
+
+def parts(width, p):
+    """Sign, exponent and fraction."""
+    e, f = FORMATS[width]
+    return bits(p, e + f, 1), bits(p, f, e), bits(p, 0, f)
+
+
+def infinity(width, sign):
+    return pattern(width, sign, (1 << FORMATS[width][0]) - 1, 0)
+
+
+def default_nan(width):
+    return {32: 0x7FC00000, 64: 0x7FF8000000000000}[width]
+
+
+def magnitude(width, p):
+    """The pattern without its sign: those of infinity and of NaNs are the highest."""
+    return bits(p, 0, width - 1)
+
+
+def is_nan(width, p):
+    return magnitude(width, p) > infinity(width, 0)
+
+
+def is_infinite(width, p):
+    return magnitude(width, p) == infinity(width, 0)
+
+
+def lowest(width):
+    """The least subnormal is 2 to this power."""
+    e, f = FORMATS[width]
+    return 2 - (1 << e - 1) - f
+
+
+def exact(width, p):
+    """The value of a finite float: a whole number, and the power of two that it is multiplied by."""
+    sign, exponent, fraction = parts(width, p)
+    n = fraction + (1 << FORMATS[width][1]) if exponent else fraction
+    return -n if sign else n, lowest(width) + max(exponent - 1, 0)
+
+
+def rounded(width, sign, n, power):
+    """The float nearest to n * 2 ** power, n not negative: of two that are as near, the one with an even fraction."""
+    e, f = FORMATS[width]
+    unit = max(n.bit_length() + power - f - 1, lowest(width))
+    if unit <= power:
+        kept = n << power - unit
+    else:
+        kept, rest = divmod(n, 1 << unit - power)
+        half = 1 << unit - power - 1
+        if rest > half or rest == half and kept % 2:
+            kept += 1
+    if kept == 1 << f + 1:
+        kept, unit = kept // 2, unit + 1
+    exponent = unit - lowest(width) + 1 if kept >= 1 << f else 0
+    return infinity(width, sign) if exponent >= (1 << e) - 1 else pattern(width, sign, exponent, bits(kept, 0, f))
+
+
+def add(width, a, b):
+    sign_a, sign_b = parts(width, a)[0], parts(width, b)[0]
+    if is_nan(width, a) or is_nan(width, b) or is_infinite(width, a) and is_infinite(width, b) and sign_a != sign_b:
+        return default_nan(width)
+    if is_infinite(width, a) or is_infinite(width, b):
+        return a if is_infinite(width, a) else b
+    (m, power_a), (n, power_b) = exact(width, a), exact(width, b)
+    power = min(power_a, power_b)
+    total = (m << power_a - power) + (n << power_b - power)
+    return rounded(width, sign_a & sign_b if total == 0 else int(total < 0), abs(total), power)
+
+
+def multiply(width, a, b):
+    sign = parts(width, a)[0] ^ parts(width, b)[0]
+    if is_nan(width, a) or is_nan(width, b):
+        return default_nan(width)
+    if is_infinite(width, a) or is_infinite(width, b):
+        return default_nan(width) if 0 in (magnitude(width, a), magnitude(width, b)) else infinity(width, sign)
+    (m, power_a), (n, power_b) = exact(width, a), exact(width, b)
+    return rounded(width, sign, abs(m * n), power_a + power_b)
+
+
+def negate(width, a):
+    return a ^ 1 << width - 1
+
+
+def at_most_zero(width, a):
+    return not is_nan(width, a) and (magnitude(width, a) == 0 or parts(width, a)[0] == 1)
+
+
+# ---- vecfp
+
+def float_result(mode, width, x, y, z):
+    if mode == 4:
+        return 0 if at_most_zero(width, x) else y
+    return multiply(width, x, y) if mode == 10 else add(width, z, x if mode == 11 else y)
+
+
+def vecfp(state, generation, op):
+    mode, width = alu_mode(op), {4: 32, 7: 64}[bits(op, 42, 4)]
+    lanes = 512 // width
+    rows, enable, value, cast = vectors(generation, op, bits(op, 32, 5))
+    on = [k for k in range(lanes) if vector_enable(enable, value, k, lanes)]
+    for v, row in enumerate(rows):
+        x = bytes(64) if cast == 4 else load(state, 0, bits(op, 10, 9) + (0 if cast in (2, 6) else 64 * v))
+        y = bytes(64) if cast == 5 else load(state, 512, bits(op, 0, 9) + (0 if cast in (3, 7) else 64 * v))
+        for k in on:
+            a = number(x, width, 0 if cast == 6 else k, False)
+            b = number(y, width, 0 if cast == 7 else value % lanes if enable == 1 else k, False)
+            z = number(z_row(state, row), width, k, False)
+            store(state, row, width, k, 0 if cast == 1 else float_result(mode, width, a, b, z))
+    return len(rows) * len(on) * width // 8
+
+
+# ---- fms64
+
+def fms64(state, op):
+    x = [number(load(state, 0, bits(op, 10, 9)), 64, i, False) for i in range(8)]
+    y = [number(load(state, 512, bits(op, 0, 9)), 64, j, False) for j in range(8)]
+    x_on = [i for i in range(8) if matrix_enable(bits(op, 46, 2), bits(op, 41, 5), i, 8)]
+    y_on = [j for j in range(8) if matrix_enable(bits(op, 37, 2), bits(op, 32, 5), j, 8)]
+    skip_x, skip_y, skip_z, z_number = bits(op, 29, 1), bits(op, 28, 1), bits(op, 27, 1), bits(op, 20, 6)
+    if bits(op, 63, 1):
+        places = [(i, i, z_number) for i in x_on]
+    else:
+        places = [(i, j, 8 * j + z_number % 8) for j in y_on for i in x_on]
+    for i, j, row in places:
+        z = number(z_row(state, row), 64, i, False)
+        if skip_x and skip_y:
+            new = 1 << 63 if skip_z else z
+        else:
+            minus = negate(64, y[j] if skip_x else x[i])
+            new = minus if skip_z else add(64, z, minus)
+        store(state, row, 64, i, new)
+    return 8 * len(places)
 
 
 # ---- the step and the trace
@@ -194,13 +345,18 @@ def step(state, instruction, generation, op, serial):
     count = taken(state)
     if generation not in (1, 2):
         return "refused 2"
-    if instruction not in (MAC16, VECINT):
+    if instruction not in (FMS64, MAC16, VECINT, VECFP):
         return "refused 3"
     if count == LAST:
         return "refused 9"
     if serial != count:
         return "refused 8"
-    answer = f"done {mac16(state, op)}" if instruction == MAC16 else vecint_answer(state, generation, op)
+    if instruction == MAC16:
+        answer = f"done {mac16(state, op)}"
+    elif instruction == FMS64:
+        answer = f"done {fms64(state, op)}" if bits(op, 28, 2) else "refused 4"
+    else:
+        answer = (vecint_answer if instruction == VECINT else vecfp_answer)(state, generation, op)
     if not answer.startswith("refused"):
         state[REGISTERS:] = (count + 1).to_bytes(8, "little")
     return answer
@@ -217,6 +373,19 @@ def vecint_answer(state, generation, op):
     if mode != 4 and bits(op, 27, 4):
         return "refused 4"
     return f"done {vecint(state, generation, op)}"
+
+
+def vecfp_answer(state, generation, op):
+    mode = alu_mode(op)
+    if bits(op, 54, 3):
+        return "no-op 1"
+    if mode not in (0, 1, 4, 5, 7, 10, 11, 12):
+        return "no-op 2"
+    if mode in (10, 11, 12) and generation == 1:
+        return "no-op 3"
+    if mode in (0, 1, 5, 7) or bits(op, 42, 4) not in (4, 7) or bits(op, 27, 4):  # with bit 53 the mode is 0
+        return "refused 4"
+    return f"done {vecfp(state, generation, op)}"
 
 
 def table(n, sections):
@@ -290,10 +459,12 @@ def cut(file, consumed, count=None):
 # ---- the traces
 
 PLACES = {
+    FMS64: dict(vector=63, x_mode=46, x_value=41, y_mode=37, y_value=32, skips=27, z=20, x=10, y=0),
     MAC16: dict(vector=63, wide=62, shift=55, x_mode=46, x_value=41, y_mode=37, y_value=32, z=20, x=10, y=0),
     VECINT: dict(
         x_signed=63, shift=58, indexed=53, ignored=52, register=49, index_4_bits=48, index_y=47, alu=47, widths=42, mode=38, value=32,
         several=31, saturate=30, rounding=29, y_signed=26, four=25, z=20, x=10, y=0),
+    VECFP: dict(indexed=53, alu=47, widths=42, mode=38, value=32, several=31, four=25, z=20, x=10, y=0),
 }
 
 
@@ -322,7 +493,7 @@ def product():
 def answers(rng):
     """Every answer that a step of a trace can have, in each form and mode, on random bytes."""
     steps = [call(MAC16, 1, vector=1, z=63, x=480, y=500), call(MAC16, 2, x_mode=2, x_value=3, y_value=1, z=7), call(MAC16, 1, wide=1, shift=3)]
-    steps += [call(MAC16, 1, vector=1, x_value=3), (MAC16, 0, 0), (MAC16, 3, 0), (13, 1, 0), (VECINT, 0, 0), (19, 0, 0), (VECINT, 3, 1 << 54)]
+    steps += [call(MAC16, 1, vector=1, x_value=3), (MAC16, 0, 0), (MAC16, 3, 0), (13, 1, 0), (VECINT, 0, 0), (20, 0, 0), (VECINT, 3, 1 << 54)]
     steps += [call(VECINT, 1, alu=m, x_signed=1, y_signed=1, z=m, x=16 * m) for m in range(7)]
     steps += [call(VECINT, 2, alu=m, z=m, y=16 * m, shift=2) for m in (10, 11, 12)]
     steps += [call(VECINT, 1, widths=w, z=22) for w in (3, 10, 11, 12, 13)]
@@ -356,6 +527,140 @@ def indexed_loads(rng):
                 form[name] = rng.randrange(n)
             steps += [call(VECINT, generation, **{**form, **fields})]
     return trace(rng.randbytes(REGISTERS), steps + [(VECINT, 2, 1 << 53 | 1 << b) for b in (27, 28, 29, 30, 52, 54, 55, 56)])
+
+
+def specials(width):
+    """32 floats: zero, subnormals, infinity and NaNs, and those of which two have a sum or product that is a tie, or next to one, or overflows."""
+    e, f = FORMATS[width]
+    bias, last, ones = (1 << e - 1) - 1, (1 << e) - 1, (1 << f) - 1
+
+    def power(n, fraction=0):
+        return pattern(width, 0, bias + n, fraction)
+
+    small = [0, 1, 3, 1 << f - 1, ones, ones + 1, ones + 2]
+    near_1 = [power(-1), power(-1, ones), power(0), power(0, 1), power(0, 2), power(0, ones), power(0, 1 << f - 1)]
+    half_of_last = [power(-f - 2, ones), power(-f - 1), power(-f - 1, 1)]  # half of the last digit of 1, with what is next to it
+    short = [power(0, 1 << f // 2), power(0, 1 << f // 2 - 1), power(1, 3 << f // 2)]
+    root = (lowest(width) - 1) // 2  # two of these make half of the least, or one and the next
+    halves = [power(root), power(root + 1), power(root, 1)]
+    big = [power(bias // 2), power(bias // 2 + 1), power(bias - f - 2, ones), power(bias - f - 1), power(bias, ones - 1), power(bias, ones)]
+    high = [infinity(width, 0), pattern(width, 0, last, 1), pattern(width, 0, last, ones // 2 + 2)]  # a signalling NaN, and a quiet one
+    return small + near_1 + half_of_last + short + halves + big + high
+
+
+def pairs(width):
+    """The floats of four registers, and 16 more. Pairs of one of each are the cases of an operation."""
+    every, e = specials(width), width - 1
+    many = [p | sign << e for sign in (0, 1) for p in every] if width == 32 else [p | (i + 1) % 2 << e for i, p in enumerate(every)]
+    few = [p | sign << e for p, sign in zip((every[i] for i in (0, 0, 1, 2, 5, 9, 9, 10, 13, 17, 20, 28, 28, 29, 29, 31)), (0, 1) * 8)]
+    return many, few
+
+
+def packed(width, lanes, size):
+    """Lanes one after another, filled up with zeros."""
+    return b"".join(p.to_bytes(width // 8, "little") for p in lanes).ljust(size, b"\0")
+
+
+def all_pairs(width, mode):
+    """One mode of vecfp on every pair: each step does four registers with one more float, which is a lane of Y, or the old Z."""
+    many, few = pairs(width)
+    x, y = (packed(width, lanes, 512) for lanes in ((few, many) if mode == 12 else (many, few)))
+    z = b"".join(packed(width, [p] * (512 // width), 64) for p in few) * 4
+    form = dict(alu=mode, widths=4 if width == 32 else 7, several=1, four=1)
+    casts = dict(value=7) if mode in (4, 10) else {}
+    steps = [call(VECFP, 2, z=j, y=width // 8 * j if casts else 0, **form, **casts) for j in range(16)]
+    return trace(x + y + (bytes(4096) if casts else z), steps)
+
+
+def fms64_pairs():
+    """z - x with 32 floats as X and 8 as old Z, then z - y the same: a step has 8 of each."""
+    every = specials(64)
+    x, y = packed(64, every, 512), packed(64, [negate(64, p) for p in every], 512)
+    old = [every[i] | sign << 63 for i, sign in zip((0, 0, 1, 9, 10, 28, 29, 30), (0, 1) * 4)]
+    rows = [[old[j]] * 8 if r < 4 else old for j in range(8) for r in range(8)]
+    steps = [call(FMS64, 1 + r % 2, skips=2, z=r, x=64 * r) for r in range(4)]
+    steps += [call(FMS64, 1 + r % 2, skips=4, z=4 + r, y=64 * r) for r in range(4)]
+    return trace(x + y + b"".join(packed(64, row, 64) for row in rows), steps)
+
+
+def float_registers(rng, *widths):
+    """Lanes of special floats of both signs and of random ones, each register or row at one of the widths."""
+    def lane(width):
+        return rng.choice(specials(width)) | rng.getrandbits(1) << width - 1 if rng.randrange(4) else rng.getrandbits(width)
+
+    def row(width):
+        return packed(width, [lane(width) for _ in range(512 // width)], 64)
+
+    return b"".join(row(rng.choice(widths)) for _ in range(80))
+
+
+def ignored(rng, step, *places):
+    """The step with random bits at places where they are ignored."""
+    return *step[:2], step[2] | sum(rng.getrandbits(1) << n for n in places)
+
+
+VECFP_IGNORED = (9, 19, 26, 41, 46, 57, 58, 59, 60, 61, 62, 63)
+FMS64_IGNORED = (9, 19, 26, 30, 31, 39, 40, *range(48, 63))
+
+
+def float_answers(rng):
+    """Every answer that a step of vecfp or fms64 can have, on both generations; where several rows of the table apply, the first is answered."""
+    steps = [(instruction, generation, 1 << 28) for instruction in (FMS64, VECFP) for generation in (0, 3)]
+    steps += [(instruction, 2, 1 << 28) for instruction in (10, 12, 13, 15, 16, 17, 20)]
+    for generation in (1, 2):
+        steps += [call(FMS64, generation, skips=n, vector=n % 2, z=n, x=8 * n, y=8 * n) for n in range(8)]
+        steps += [call(VECFP, generation, alu=m, widths=4, z=20 + m % 16, x=4 * m, y=4 * m) for m in (*range(17), 20, 36, 63)]
+        steps += [call(VECFP, generation, alu=4 if generation == 1 else 10, widths=w, z=40 + w) for w in range(16)]
+        cases = [(alu, 7, b) for alu in (4, 10) for b in (27, 28, 29, 30, 53, 54, 55, 56)] + [(8, 0, 54), (8, 0, 27), (10, 0, 27), (63, 0, 53)]
+        steps += [(VECFP, generation, alu << 47 | widths << 42 | 1 << b) for alu, widths, b in cases]
+    return trace(float_registers(rng, 32, 64), steps)
+
+
+def float_masks(rng):
+    """The enable modes of vecfp at the values where lanes begin, end or change side, with overrides and broadcast lanes; bit 37 is ignored."""
+    cases = [(0, n) for n in range(8)] + [(1, n) for n in (0, 7, 8, 15, 16, 31)] + [(m, 5) for m in (6, 7)]
+    steps = []
+    for widths, lanes in ((4, 16), (7, 8)):
+        for m, n in cases + [(m, n) for m in (2, 3, 4, 5) for n in (0, 1, lanes - 1, lanes, lanes + 1, 31)]:
+            alu = rng.choice((4, 10, 11, 12))
+            place = dict(z=rng.randrange(64), x=4 * rng.randrange(128), y=4 * rng.randrange(128))
+            step = call(VECFP, 1 if alu == 4 else 2, alu=alu, widths=widths, mode=m, value=n, **place)
+            steps += [ignored(rng, step, 37, *VECFP_IGNORED)]
+    return trace(float_registers(rng, 32, 64), steps)
+
+
+def float_vectors(rng):
+    """Two and four vectors of vecfp in every broadcast mode, and one vector where bit 31 is ignored."""
+    steps = []
+    for widths in (4, 7):
+        for four, cast, alu in [(four, cast, rng.choice((4, 10, 11, 12))) for four in (0, 1) for cast in range(8)]:
+            place = dict(z=rng.randrange(16), x=8 * rng.randrange(64), y=8 * rng.randrange(64))
+            step = call(VECFP, 2, alu=alu, widths=widths, several=1, four=four, value=cast, **place)
+            steps += [ignored(rng, step, *range(35, 41), *([24] if four else []), *VECFP_IGNORED)]
+        for z, m, n in ((35, 0, 0), (37, 0, 6), (39, 1, 3), (9, 2, 3)):
+            step = call(VECFP, 1, alu=4, widths=widths, several=1, z=z, mode=m, value=n, x=4 * z, y=8 * z)
+            steps += [ignored(rng, step, 37, *VECFP_IGNORED)]
+    return trace(float_registers(rng, 32, 64), steps)
+
+
+def fms64_forms(rng):
+    """fms64 in vector and matrix form, in each of its operations, at enables that begin, end or miss the lanes."""
+    enables = [(0, 0), (0, 1), (0, 2), (0, 3), (1, 0), (1, 7), (1, 8), (1, 31), (2, 0), (2, 3), (2, 8), (2, 31), (3, 0), (3, 3), (3, 8), (3, 31)]
+    steps = []
+    for vector, skips in [(vector, skips) for vector in (0, 1) for skips in (2, 3, 4, 5, 6, 7)]:
+        for x_mode, x_value in rng.sample(enables, 6):
+            y_mode, y_value = rng.choice(enables)
+            step = call(FMS64, rng.choice((1, 2)), vector=vector, skips=skips, x_mode=x_mode, x_value=x_value, y_mode=y_mode, y_value=y_value,
+                        z=rng.randrange(64), x=rng.choice((8, 1)) * rng.randrange(64), y=rng.choice((8, 1)) * rng.randrange(64))
+            steps += [ignored(rng, step, *FMS64_IGNORED)]
+    return trace(float_registers(rng, 64), steps)
+
+
+def floats(rng):
+    for name, width in (("single", 32), ("double", 64)):
+        yield from ((f"floats_{name}_{mode}", all_pairs(width, mode)) for mode in (4, 10, 11, 12))
+    yield from (("fms64_pairs", fms64_pairs()), ("fms64", fms64_forms(rng)), ("float_answers", float_answers(rng)))
+    yield from (("float_masks", float_masks(rng)), ("float_vectors", float_vectors(rng)))
 
 
 def any_step(rng):
@@ -431,6 +736,7 @@ def stored():
     yield from damaged()
     yield from stopped(rng)
     yield from damaged_third()
+    yield from floats(random.Random(19))
 
 
 def write(crate, traces, named, unread):
