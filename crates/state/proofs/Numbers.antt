@@ -12,10 +12,10 @@ use lib.ListN.{length, getD}
 use lib.Seq.{sets}
 use borrow.Author.Tests.{eq-eqb}
 use Rattle.number.specs.Bytes.{span, byteAt, number, bytesOf, table}
-use Rattle.number.proofs.Bytes.{getD-table, table-same, number-moved}
+use Rattle.number.proofs.Bytes.{getD-table, table-same, number-same, number-moved}
 use Rattle.number.proofs.Tests.{two, pick-true, pick-false}
 use Rattle.isa.specs.State.{zBase, start}
-use Rattle.isa.specs.Effect.{Effect, newLane, applied}
+use Rattle.isa.specs.Effect.{newLane, applied}
 use Rattle.state.specs.Rows.{among, oneRow}
 use Rattle.state.proofs.Holds.{Bytes, laneAfter}
 use Rattle.state.proofs.RunLoop.{among-one, run-outside}
@@ -26,22 +26,27 @@ at : {A : Type 0} (d : A) (f : ℕ → A) (n k : ℕ) → k < n → getD (table 
 at d f n k h = getD-table f d 0 n k h ∙ ap f (zero-add k)
 
 module _ (b m : ℕ) (fit : m * b ≡ 64) where
-  -- the numbers of a row's bytes
+  -- the numbers of 64 bytes, by what gives the bytes
+  pub words-of : (f : ℕ → ℕ) (bytes r : List ℕ) → bytes ≡ table f 0 64
+      → r ≡ table (λ l. number b (byteAt bytes) (b * l)) 0 m → r ≡ table (λ l. number b f (b * l)) 0 m
+  words-of f bytes r eb er = er ∙ table-same (λ l. number b (byteAt bytes) (b * l)) (λ l. number b f (b * l)) m lane
+    where
+      lane : (l : ℕ) → l < m → number b (byteAt bytes) (b * l) ≡ number b f (b * l)
+      lane l hl =
+          number-same b (byteAt bytes) f (b * l)
+          (λ k hk.
+          let inside : l * b + k < m * b = digits-lt hl hk in
+          ap (λ (x : List ℕ). byteAt x (b * l + k)) eb ∙ at 0 f 64 (b * l + k) (omega (arith, mul-comm b l)))
+
+  -- of a row's bytes
   pub row-read : (s bytes r : List ℕ) (row : ℕ) → bytes ≡ table (λ i. byteAt s (zBase + row * 64 + i)) 0 64
       → r ≡ table (λ l. number b (byteAt bytes) (b * l)) 0 m → r ≡ table (λ l. number b (byteAt s) (start b row l)) 0 m
   row-read s bytes r row eb er =
-      er ∙ table-same (λ l. number b (byteAt bytes) (b * l)) (λ l. number b (byteAt s) (start b row l)) m lane
-    where
-      lane : (l : ℕ) → l < m → number b (byteAt bytes) (b * l) ≡ number b (byteAt s) (start b row l)
-      lane l hl = number-moved b (byteAt bytes) (byteAt s) (b * l) (start b row l) byte
-        where
-          byte : (k : ℕ) → k < b → byteAt bytes (b * l + k) ≡ byteAt s (start b row l + k)
-          byte k hk =
-              let place : b * l ≡ l * b = mul-comm b l in
-              let inside : l * b + k < m * b = digits-lt hl hk in
-              ap (λ (x : List ℕ). byteAt x (b * l + k)) eb
-              ∙ at 0 (λ i. byteAt s (zBase + row * 64 + i)) 64 (b * l + k) (omega arith)
-              ∙ ap (byteAt s) (omega arith)
+      words-of (λ i. byteAt s (zBase + row * 64 + i)) bytes r eb er
+      ∙ table-same (λ l. number b (λ i. byteAt s (zBase + row * 64 + i)) (b * l)) (λ l. number b (byteAt s) (start b row l)) m
+      (λ l hl.
+      number-moved b (λ i. byteAt s (zBase + row * 64 + i)) (byteAt s) (b * l) (start b row l)
+      (λ k hk. ap (byteAt s) (omega (arith, mul-comm b l))))
 
   -- ---- a row stored from a list of values
 
