@@ -261,3 +261,30 @@ pub fn lanes32(mask: u64) -> [bool; 32]
     }
     on
 }
+
+// The first 16, for lanes of 4 bytes, and the first 8.
+pub fn lanes16(mask: u64) -> [bool; 16]
+    ensures { λ r. ⌜ r ≡ table (bit mask) 0 16 ⌝ }
+{
+    if mask == ALL {
+        return [true; 16];
+    }
+    let mut on = [false; 16];
+    for k in 0..16 {
+        on[k] = is_on(mask, k);
+    }
+    on
+}
+
+pub fn lanes8(mask: u64) -> [bool; 8]
+    ensures { λ r. ⌜ r ≡ table (bit mask) 0 8 ⌝ }
+{
+    if mask == ALL {
+        return [true; 8];
+    }
+    let mut on = [false; 8];
+    for k in 0..8 {
+        on[k] = is_on(mask, k);
+    }
+    on
+}

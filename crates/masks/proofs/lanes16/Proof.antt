@@ -1,0 +1,57 @@
+use mathlib.Core.Path.{refl}
+use Prim.Native.Nat.{_-_}
+use native.Mathlib.Omega.{arith}
+use borrow.Author.Needs.{needs}
+use Rattle.number.specs.Bytes.{table}
+use Rattle.isa.specs.Operand.{bits}
+use Rattle.masks.proofs.Lanes.{LanesTo, lanes-on, lanes-none, lanes-more, lanes-all}
+use Rattle.masks.proofs.lanes16.Statement.{statement}
+use Rattle.masks.proofs.lanes16.Tie as tie
+
+abbrev Inv-loop : tie.InvT-loop
+Inv-loop mask on₀ k₀ on k = LanesTo 16 mask on k
+
+abbrev μ-loop : tie.MeasureT-loop
+μ-loop mask on₀ k₀ on k = 16 - k
+
+returns : tie.Need-returns Inv-loop μ-loop
+unfolding table bits
+returns c = lanes-on 16 _ _ (c .if1 .taken) refl
+
+loop-holds : tie.Need-loop-holds Inv-loop μ-loop
+loop-holds c = lanes-none refl
+
+is-on-requires : tie.Need-is-on-requires Inv-loop μ-loop
+is-on-requires c κs = search needs
+
+array-write-on : tie.Need-array-write-on Inv-loop μ-loop
+array-write-on c = search needs
+
+add-k : tie.Need-add-k Inv-loop μ-loop
+add-k c = search needs
+
+loop-less : tie.Need-loop-less Inv-loop μ-loop
+loop-less c = search needs
+
+loop-again : tie.Need-loop-again Inv-loop μ-loop
+loop-again c =
+    let turn = c .before .before in
+    lanes-more (turn .loop .inv) (omega arith) (c .is-on .ensures)
+
+returns-2 : tie.Need-returns-2 Inv-loop μ-loop
+returns-2 c = lanes-all (c .before .loop .inv) (c .loop-test .left)
+
+pub lanes16-spec : {M : Type 1} → statement M
+lanes16-spec =
+    tie.close
+    (tie.spec
+    Inv-loop
+    μ-loop
+    returns
+    loop-holds
+    is-on-requires
+    array-write-on
+    add-k
+    loop-less
+    loop-again
+    returns-2)
