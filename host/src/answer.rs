@@ -136,8 +136,8 @@ impl fmt::Display for Refusal {
             Refusal::Generation => "the generation is not 1 or 2",
             Refusal::Instruction => "the instruction is not 11 (fms64), 14 (mac16), 18 (vecint) or 19 (vecfp)",
             Refusal::NotCovered => {
-                "shuffles (but in vecint's ALU mode 4), vecfp's ALU modes 0, 1, 5 and 7, its indexed loads and its lane widths \
-                 other than 4 and 7, and fms64 that skips neither X nor Y are not covered"
+                "not covered are shuffles (but in vecint's ALU mode 4); vecfp's ALU modes 0, 1, 5 and 7, indexed loads and lane widths \
+                 other than 4 and 7; fms64 with both X and Y"
             }
             Refusal::Serial => "the serial is not the count of steps taken",
             Refusal::LastCount => "the count of steps taken is at its last, 2^64 - 1",

@@ -1,5 +1,8 @@
-use crate::{Answer, Call, Field, Generation, Instruction, State, fields, normal, reference, step};
+use crate::{Answer, Call, Field, Generation, Instruction, Refusal, State, fields, normal, reference, step};
 use std::fmt;
+
+/// How the words of a field's value end that the unit does not cover.
+const NOT_COVERED: &str = "not covered";
 
 /// An operand told field by field. `{}` writes it out.
 #[derive(Debug)]
@@ -90,11 +93,24 @@ impl fmt::Display for Explanation {
         if self.answer.is_done() {
             writeln!(f, "normal operand {:#018x}", self.normal)?;
         }
+        if self.answer == Answer::Refused(Refusal::NotCovered) {
+            writeln!(f, "not covered here: {}", self.not_covered())?;
+        }
         writeln!(f, "answer: {:#}", self.answer)
     }
 }
 
 impl Explanation {
+    /// The fields by which an operand is not covered.
+    fn not_covered(&self) -> String {
+        let by = |&(field, value): &(&Field, u64)| {
+            let shuffle = value != 0 && matches!(field.name, "x_shuffle" | "y_shuffle");
+            let words = self.words(field, value).is_some_and(|words| words.ends_with(NOT_COVERED));
+            (shuffle || words).then_some(if field.name == "skip_z" { "skip_x and skip_y, both 0" } else { field.short })
+        };
+        self.fields.iter().filter_map(by).collect::<Vec<_>>().join(", ")
+    }
+
     /// The value of a field, 0 where the operand does not have it.
     fn get(&self, name: &str) -> u64 {
         self.fields.iter().find(|(field, _)| field.name == name).map_or(0, |&(_, value)| value)
@@ -117,7 +133,7 @@ impl Explanation {
         match name {
             "enable_value" => Some(vector_mask(self.get("enable_mode"), value)),
             "alu_mode" => Some(float_operation(value).to_owned()),
-            "indexed" if value == 1 => Some("not covered".to_owned()),
+            "indexed" if value == 1 => Some(NOT_COVERED.to_owned()),
             "lane_widths" => Some(float_widths(value).to_owned()),
             _ => None,
         }
