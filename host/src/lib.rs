@@ -3,7 +3,8 @@
 //! - [`State`] holds the registers and the count of steps taken; [`step`] does one call on it, and [`step_bytes`] does so on bytes of any
 //!   length. A call names the count before it, its serial, so that one sent twice adds once.
 //! - [`Answer`] tells a step that was done from a no-op and a refusal, with the reason.
-//! - [`Mac16`], [`Vecint`], [`Vecfp`] and [`Fms64`] build operands by field; [`explain`] goes back, with the ignored bits; [`normal`] clears those.
+//! - [`Mac16`], [`Vecint`], [`Vecfp`] and [`Fms64`] build operands by field; [`explain`] goes back, with the ignored bits; [`normal`]
+//!   clears those.
 //! - [`Trace`] reads and writes trace files, whole ones and such as go on from a [`Checkpoint`]; [`text`] does so with their texts.
 //! - [`mod@reference`] is a second program for the same pages, whose floats are whole numbers ([`rounding`]). Nothing here relies on it but
 //!   [`lane_grid`]; the `compare` program runs both.

@@ -235,8 +235,8 @@ fn one(format: Format) -> u64 {
     format.sign() / 2 - (1 << format.fraction)
 }
 
-/// Patterns at the edges of a format, each with both signs: zeros, subnormals, numbers that tie or whose sums and products do, those next to
-/// infinity, infinity and NaNs, quiet and signalling.
+/// Patterns at the edges of a format, each with both signs: zeros, subnormals, numbers whose sums and products tie, those next to infinity,
+/// infinity, and NaNs, quiet and signalling.
 pub fn specials(format: Format) -> Vec<u64> {
     let (hidden, infinity, one) = (1u64 << format.fraction, format.infinity(), one(format));
     let bias = one >> format.fraction;

@@ -43,8 +43,8 @@ fn rounding_fault(operations: &Operations, format: Format, a: u64, b: u64) -> Op
     Some(format!("f{}: {a:#x} {sign} {b:#x} is {given:#x} in whole numbers, and {expected:#x} by the processor\n", format.bits))
 }
 
-/// The rounding in whole numbers against the processor's operators, for every pair of special patterns and so many random ones. The number of
-/// operations.
+/// The rounding in whole numbers against the processor's operators, for every pair of special patterns and so many random ones. The
+/// number of operations.
 pub fn rounding(operations: &Operations, random: &mut Random, count: u64) -> Result<u64, String> {
     let mut compared = 0;
     for format in [SINGLE, DOUBLE] {
@@ -83,8 +83,8 @@ impl Lanes {
 /// How special pairs are laid out in a state: the pair is X and Y, or X and Z, or Y and Z, and the other is a third pattern.
 const LAYOUTS: [[usize; 3]; 3] = [[0, 1, 2], [0, 2, 1], [2, 0, 1]];
 
-/// States that have every pair of special patterns, in all three layouts. Register n of X and of Y and row n of Z have the same pairs, and so
-/// have the rows of two vectors from row 8 + n on, and those of four from row n on.
+/// States that have every pair of special patterns, in all three layouts. Register n of X and of Y and row n of Z have the same pairs, and
+/// so have the rows of two vectors from row 8 + n on, and those of four from row n on.
 fn pair_states(format: Format) -> impl Iterator<Item = Vec<u8>> {
     let special = specials(format);
     let count = special.len();
@@ -104,10 +104,14 @@ fn pair_states(format: Format) -> impl Iterator<Item = Vec<u8>> {
     })
 }
 
+/// The offsets of register n of X and of Y, and a row of Z.
+fn place(n: u64, row: u64) -> u64 {
+    row << 20 | (64 * n) << 10 | (64 * n)
+}
+
 /// A vecfp in every mode and form, where the pairs of `pair_states` lie.
 fn vecfp_calls(format: Format) -> Vec<Call> {
     let widths = if format == SINGLE { 4 } else { 7 } << 42;
-    let place = |n: u64, row: u64| row << 20 | (64 * n) << 10 | 64 * n;
     let mut operands = Vec::new();
     for n in 0..8 {
         // all lanes, output 0, X read as 0, Y read as 0, and a lane of Y for every lane
@@ -125,6 +129,16 @@ fn vecfp_calls(format: Format) -> Vec<Call> {
 /// An fms64 of every operation that is done.
 fn fms64_calls(places: impl Iterator<Item = u64>) -> Vec<Call> {
     on_both(11, pairs(places, 6).map(|(place, skips)| place | (skips + 2) << 27).collect())
+}
+
+/// The vector steps of fms64 where the pairs of `pair_states` lie.
+fn fms64_vectors() -> Vec<Call> {
+    fms64_calls((0..8).map(|n| 1 << 63 | place(n, n)))
+}
+
+/// The matrix steps where those of `matrix_states` lie.
+fn fms64_matrices() -> Vec<Call> {
+    fms64_calls((0..8).map(|n| place(n, n)))
 }
 
 /// States that have every pair of special doubles as an X lane and a Z lane of a matrix, and as a Y lane and a Z lane.
@@ -203,11 +217,9 @@ fn needed_kinds() -> Vec<String> {
 
 /// Every pair of special patterns through every mode and form. The number of steps.
 pub fn special(step: Step, tally: &mut Tally) -> Result<u64, String> {
-    let (vectors, matrices) =
-        (fms64_calls((0..8).map(|n| 1 << 63 | n << 20 | (64 * n) << 10 | 64 * n)), fms64_calls((0..8).map(|n| n << 20)));
     let singles = pair_states(SINGLE).map(|state| (state, vecfp_calls(SINGLE)));
-    let doubles = pair_states(DOUBLE).map(|state| (state, [vecfp_calls(DOUBLE), vectors.clone()].concat()));
-    let matrices = matrix_states().into_iter().map(|state| (state, matrices.clone()));
+    let doubles = pair_states(DOUBLE).map(|state| (state, [vecfp_calls(DOUBLE), fms64_vectors()].concat()));
+    let matrices = matrix_states().into_iter().map(|state| (state, fms64_matrices()));
     let mut count = 0;
     for (state, calls) in singles.chain(doubles).chain(matrices) {
         for call in calls {
@@ -289,10 +301,9 @@ mod tests {
                 assert_eq!(met(&mut pair_states(format), &calls), [every(format); 3], "{form:#x}");
             }
         }
-        let places = fms64_calls((0..8).map(|n| 1 << 63 | n << 20 | (64 * n) << 10 | 64 * n));
-        assert_eq!(met(&mut pair_states(DOUBLE), &places), [every(DOUBLE); 3]);
+        assert_eq!(met(&mut pair_states(DOUBLE), &fms64_vectors()), [every(DOUBLE); 3]);
         // a matrix step that is done uses X or Y, and not both
-        assert_eq!(met(&mut matrix_states().into_iter(), &fms64_calls((0..8).map(|n| n << 20)))[1..], [every(DOUBLE); 2]);
+        assert_eq!(met(&mut matrix_states().into_iter(), &fms64_matrices())[1..], [every(DOUBLE); 2]);
     }
 
     /// The reference with the results of vectors changed, by ALU mode (fms64: the skips), format, X, Y, old Z and result.
@@ -312,86 +323,66 @@ mod tests {
         answer
     }
 
+    /// A step that is altered.
+    macro_rules! altering {
+        ($change:expr) => {
+            (|state, call, serial| altered(state, call, serial, $change)) as Step
+        };
+    }
+
     fn is_nan(format: Format, pattern: u64) -> bool {
         kind(format, pattern) >= 5
     }
 
     #[test]
     fn what_is_wrong_about_a_float_is_found() {
-        let wrong: [(&str, Step); 12] = [
-            ("a payload that is kept", |state, call, serial| {
-                altered(
-                    state,
-                    call,
-                    serial,
-                    |mode, format, [_, _, z], result| {
-                        if mode == 11 && is_nan(format, z) { z | 1 << (format.fraction - 1) } else { result }
-                    },
-                )
-            }),
-            ("the sign of a NaN", |state, call, serial| {
-                altered(
-                    state,
-                    call,
-                    serial,
-                    |mode, format, [x, y, _], result| {
-                        if mode == 10 && is_nan(format, result) { result | (x ^ y) & format.sign() } else { result }
-                    },
-                )
-            }),
-            ("subnormal results flushed to 0", |state, call, serial| {
-                altered(state, call, serial, |mode, format, _, result| {
+        let wrong = [
+            (
+                "a payload that is kept",
+                altering!(|mode, format, [_, _, z], result| {
+                    if mode == 11 && is_nan(format, z) { z | 1 << (format.fraction - 1) } else { result }
+                }),
+            ),
+            (
+                "the sign of a NaN",
+                altering!(|mode, format, [x, y, _], result| {
+                    if mode == 10 && is_nan(format, result) { result | (x ^ y) & format.sign() } else { result }
+                }),
+            ),
+            (
+                "subnormal results flushed to 0",
+                altering!(|mode, format, _, result| {
                     if mode != 4 && mode < 100 && kind(format, result) == 2 { result & format.sign() } else { result }
-                })
-            }),
-            ("subnormal sources read as 0", |state, call, serial| {
-                altered(
-                    state,
-                    call,
-                    serial,
-                    |mode, format, [_, y, z], result| {
-                        if mode == 12 && kind(format, y) == 2 { format.sum(z, y & format.sign()) } else { result }
-                    },
-                )
-            }),
-            ("x - z for z - x", |state, call, serial| {
-                altered(state, call, serial, |mode, format, [x, _, z], result| if mode == 102 { format.difference(x, z) } else { result })
-            }),
-            ("-0 lost in a sum of two of them", |state, call, serial| {
-                altered(
-                    state,
-                    call,
-                    serial,
-                    |mode, format, [x, _, z], result| {
-                        if mode == 11 && x == format.sign() && z == x { 0 } else { result }
-                    },
-                )
-            }),
-            ("mode 4 at a NaN", |state, call, serial| {
-                altered(state, call, serial, |mode, format, [x, ..], result| if mode == 4 && is_nan(format, x) { 0 } else { result })
-            }),
-            ("mode 4 at -0", |state, call, serial| {
-                altered(state, call, serial, |mode, format, [x, y, _], result| if mode == 4 && x == format.sign() { y } else { result })
-            }),
-            ("0 * infinity", |state, call, serial| {
-                altered(
-                    state,
-                    call,
-                    serial,
-                    |mode, format, [x, y, _], result| {
-                        if mode == 10 && x == 0 && y == format.infinity() { 0 } else { result }
-                    },
-                )
-            }),
-            ("a NaN made quiet by a move", |state, call, serial| {
-                altered(state, call, serial, |mode, format, _, result| {
+                }),
+            ),
+            (
+                "subnormal sources read as 0",
+                altering!(|mode, format, [_, y, z], result| {
+                    if mode == 12 && kind(format, y) == 2 { format.sum(z, y & format.sign()) } else { result }
+                }),
+            ),
+            ("x - z for z - x", altering!(|mode, format, [x, _, z], result| if mode == 102 { format.difference(x, z) } else { result })),
+            (
+                "-0 lost in a sum of two of them",
+                altering!(|mode, format, [x, _, z], result| { if mode == 11 && x == format.sign() && z == x { 0 } else { result } }),
+            ),
+            ("mode 4 at a NaN", altering!(|mode, format, [x, ..], result| if mode == 4 && is_nan(format, x) { 0 } else { result })),
+            ("mode 4 at -0", altering!(|mode, format, [x, y, _], result| if mode == 4 && x == format.sign() { y } else { result })),
+            (
+                "0 * infinity",
+                altering!(|mode, format, [x, y, _], result| { if mode == 10 && x == 0 && y == format.infinity() { 0 } else { result } }),
+            ),
+            (
+                "a NaN made quiet by a move",
+                altering!(|mode, format, _, result| {
                     if mode == 106 && is_nan(format, result) { result | 1 << (format.fraction - 1) } else { result }
-                })
-            }),
-            ("a NaN whose sign stays", |state, call, serial| {
-                altered(state, call, serial, |mode, format, [_, y, _], result| if mode == 105 && is_nan(format, y) { y } else { result })
-            }),
-            ("+0 for -0", |state, call, serial| altered(state, call, serial, |mode, _, _, result| if mode == 107 { 0 } else { result })),
+                }),
+            ),
+            (
+                "a NaN whose sign stays",
+                altering!(|mode, format, [_, y, _], result| if mode == 105 && is_nan(format, y) { y } else { result }),
+            ),
+            ("+0 for -0", altering!(|mode, _, _, result| if mode == 107 { 0 } else { result })),
         ];
         for (name, step) in wrong {
             let report = special(step, &mut Tally::default()).err().unwrap_or_default();

@@ -331,8 +331,8 @@ fn sent_again(case: &Case, step: Step) -> Result<u64, String> {
     Ok(again)
 }
 
-/// Normal operands: the reference's, of the same answer and effect on any state with any serial, and normal themselves. How many were of each
-/// instruction.
+/// Normal operands: the reference's, of the same answer and effect on any state with any serial, and normal themselves. How many each
+/// instruction had.
 pub fn normals(random: &mut Random, count: u64) -> Result<Tally, String> {
     let mut tally = Tally::default();
     for n in 0..count {
