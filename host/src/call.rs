@@ -240,7 +240,9 @@ mod tests {
     #[test]
     fn numbers_above_their_bytes_are_refused() {
         let refusal = |instruction, generation| step_bytes(&mut [0; STATE_LENGTH], instruction, generation, 0, 0).to_string();
-        assert_eq!(refusal((1 << 32) + 14, 1), "refused 3");
+        for instruction in [(1 << 32) + 14, (1 << 8) + 11, (1 << 63) + 19] {
+            assert_eq!(refusal(instruction, 1), "refused 3");
+        }
         assert_eq!(refusal(14, (1 << 32) + 1), "refused 2");
         assert_eq!(refusal(15, 3), "refused 2");
         assert_eq!(step_bytes(&mut [], 15, 3, 0, 0).to_string(), "refused 1");
