@@ -30,7 +30,7 @@ A text has one step in a line; what follows a # is a comment:
   x 1: 0700                           bytes of register 1 of X (0 to 7); y 1: the same for Y
   z 3: ff7f                           bytes of row 3 of Z (0 to 63); bytes not given are 0
   x f32: 1.5 -0 nan                   float lanes from the first, f32 or f64; also x 1 f32:, y f64:, z 3 f64: and so on
-  z 3 f64: 2e-3 -inf 0x7ff8000000000001  lanes are decimals, rounded to nearest, inf, -inf, nan (the default NaN) or patterns in hex
+  z 3 f64: 2e-3 -inf 0x1              a lane is a decimal, rounded to nearest, inf, -inf, nan (the default NaN) or a pattern in hex
   mac16 m1 vector x=0 y=64 z_row=3    instruction, m1 or m2, fields by name; fields not named are 0
   vecint m2 mode=0 widths=3 x_signed  a field of one bit may stand alone for 1
   vecint m2 several four z_row=5      two or four vectors: several, and four
