@@ -34,11 +34,11 @@ pub enum Answer {
 /// Why a step is a no-op. The discriminant is the reason's number.
 #[derive(Clone, Copy, Debug, PartialEq, Eq, Hash)]
 pub enum Reason {
-    /// vecint, any of bits 54..56 set.
+    /// vecint or vecfp, any of bits 54..56 set.
     ReservedBits = 1,
-    /// vecint, ALU mode 7, 8, 9 or above 12.
+    /// vecint, ALU mode 7, 8, 9 or above 12; vecfp, ALU mode 2, 3, 6, 8, 9 or above 12.
     ReservedMode = 2,
-    /// vecint, ALU mode 10, 11 or 12 on M1.
+    /// vecint or vecfp, ALU mode 10, 11 or 12 on M1.
     LaterMode = 3,
 }
 
@@ -49,9 +49,10 @@ pub enum Refusal {
     StateLength = 1,
     /// The generation is not 1 or 2.
     Generation = 2,
-    /// The instruction is not 14 or 18.
+    /// The instruction is not 11, 14, 18 or 19.
     Instruction = 3,
-    /// vecint, a shuffle outside ALU mode 4.
+    /// vecint, a shuffle outside ALU mode 4; vecfp, ALU mode 0, 1, 5 or 7, an indexed load, lane widths other than 4 and 7, or a shuffle;
+    /// fms64, neither X nor Y skipped.
     NotCovered = 4,
     /// The serial is not the count of steps taken, as when the step was taken already.
     Serial = 8,
@@ -120,7 +121,9 @@ impl fmt::Display for Reason {
     fn fmt(&self, f: &mut fmt::Formatter) -> fmt::Result {
         f.write_str(match self {
             Reason::ReservedBits => "bits 54..56 are not all 0",
-            Reason::ReservedMode => "ALU modes 7, 8, 9 and those above 12 do nothing",
+            Reason::ReservedMode => {
+                "the ALU mode is none of the instruction's (vecint's are 0 to 6 and 10 to 12, vecfp's 0, 1, 4, 5, 7 and 10 to 12)"
+            }
             Reason::LaterMode => "ALU modes 10 to 12 are not on M1",
         })
     }
@@ -131,8 +134,11 @@ impl fmt::Display for Refusal {
         f.write_str(match self {
             Refusal::StateLength => "the state is not of 5,128 bytes",
             Refusal::Generation => "the generation is not 1 or 2",
-            Refusal::Instruction => "the instruction is not 14 (mac16) or 18 (vecint)",
-            Refusal::NotCovered => "shuffles (bits 27..30 outside ALU mode 4) are not covered",
+            Refusal::Instruction => "the instruction is not 11 (fms64), 14 (mac16), 18 (vecint) or 19 (vecfp)",
+            Refusal::NotCovered => {
+                "not covered are shuffles (but in vecint's ALU mode 4); vecfp's ALU modes 0, 1, 5 and 7, indexed loads and lane widths \
+                 other than 4 and 7; fms64 with both X and Y"
+            }
             Refusal::Serial => "the serial is not the count of steps taken",
             Refusal::LastCount => "the count of steps taken is at its last, 2^64 - 1",
         })

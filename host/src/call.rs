@@ -1,9 +1,9 @@
-use crate::{Answer, Mac16, State, Vecint};
+use crate::{Answer, Fms64, Mac16, State, Vecfp, Vecint};
 
 /// A call of the step. Any numbers may stand here: the step answers for all of them.
 #[derive(Clone, Copy, Debug, PartialEq, Eq, Hash)]
 pub struct Call {
-    /// 14 is mac16, 18 is vecint.
+    /// 11 is fms64, 14 is mac16, 18 is vecint, 19 is vecfp.
     pub instruction: u64,
     /// 1 is M1, 2 is M2.
     pub generation: u64,
@@ -14,10 +14,14 @@ pub struct Call {
 /// The instructions that the unit covers. The discriminant is the instruction's number.
 #[derive(Clone, Copy, Debug, PartialEq, Eq, Hash)]
 pub enum Instruction {
+    /// Differences of f64 lanes onto a row or a matrix of Z.
+    Fms64 = 11,
     /// Products of X and Y lanes onto a row or all of Z.
     Mac16 = 14,
     /// Integer operations lane by lane, and reductions of Z.
     Vecint = 18,
+    /// Float operations lane by lane.
+    Vecfp = 19,
 }
 
 /// The generations that the unit covers. The discriminant is the generation's number.
@@ -30,16 +34,31 @@ pub enum Generation {
 }
 
 impl Instruction {
+    /// Every instruction, by number.
+    pub const ALL: [Self; 4] = [Instruction::Fms64, Instruction::Mac16, Instruction::Vecint, Instruction::Vecfp];
+
     /// The instruction of this number, if the unit covers it.
     pub fn from_number(number: u64) -> Option<Self> {
-        [Instruction::Mac16, Instruction::Vecint].into_iter().find(|&instruction| instruction as u64 == number)
+        Self::ALL.into_iter().find(|&instruction| instruction as u64 == number)
     }
 
-    /// `mac16` or `vecint`.
+    /// The instruction of this name, if the unit covers it.
+    ///
+    /// ```
+    /// use amx::Instruction;
+    /// assert_eq!((Instruction::from_name("vecfp"), Instruction::from_name("fma64")), (Some(Instruction::Vecfp), None));
+    /// ```
+    pub fn from_name(name: &str) -> Option<Self> {
+        Self::ALL.into_iter().find(|instruction| instruction.name() == name)
+    }
+
+    /// `fms64`, `mac16`, `vecint` or `vecfp`.
     pub fn name(self) -> &'static str {
         match self {
+            Instruction::Fms64 => "fms64",
             Instruction::Mac16 => "mac16",
             Instruction::Vecint => "vecint",
+            Instruction::Vecfp => "vecfp",
         }
     }
 }
@@ -74,9 +93,24 @@ impl Call {
     pub fn vecint(generation: Generation, fields: Vecint) -> Self {
         Call::new(Instruction::Vecint as u64, generation as u64, fields.operand())
     }
+
+    /// A vecfp, by its fields.
+    pub fn vecfp(generation: Generation, fields: Vecfp) -> Self {
+        Call::new(Instruction::Vecfp as u64, generation as u64, fields.operand())
+    }
+
+    /// An fms64, by its fields.
+    pub fn fms64(generation: Generation, fields: Fms64) -> Self {
+        Call::new(Instruction::Fms64 as u64, generation as u64, fields.operand())
+    }
 }
 
 /// One step of the proved unit. Its serial is the state's [`count`](State::count) before it.
+///
+/// The sums, differences and products of floats are the processor's. They are rounded to nearest and keep subnormals where the thread's
+/// floating-point environment is the one that programs start with: rounding to nearest, and neither flush-to-zero nor denormals-are-zero
+/// (bits of MXCSR on x86-64). A host must keep it so. This call restores nothing: it neither sets these, nor tests them, nor puts them
+/// back, and with others float lanes are not as stated. Integer lanes, moves and answers do not depend on them.
 ///
 /// A call that may not have arrived can be sent again with the same serial, and adds once:
 ///
@@ -99,7 +133,8 @@ pub fn step(state: &mut State, call: Call, serial: u64) -> Answer {
     step_bytes(state.bytes_mut(), call.instruction, call.generation, call.operand, serial)
 }
 
-/// One step of the proved unit on bytes of any length; a length other than [`STATE_LENGTH`](crate::STATE_LENGTH) is refused.
+/// One step of the proved unit on bytes of any length; a length other than [`STATE_LENGTH`](crate::STATE_LENGTH) is refused. What
+/// [`step`] says of the floating-point environment holds here too.
 ///
 /// ```
 /// use amx::{Answer, REGISTER_BYTES, Refusal, STATE_LENGTH, step_bytes};
@@ -127,7 +162,7 @@ pub fn checkpoint_bytes(state: &[u8], consumed: u64, out: &mut [u8]) -> usize {
 }
 
 /// The normal operand of a call: its ignored bits cleared. The step with it has the same answer and effect on every state, with every
-/// serial. An error is the step's own no-op, or its refusal of the generation, the instruction or a shuffle.
+/// serial. An error is the step's own no-op, or its refusal of the generation, the instruction or an operand that is not covered.
 ///
 /// ```
 /// use amx::{Answer, Call, Reason, normal};
@@ -205,7 +240,9 @@ mod tests {
     #[test]
     fn numbers_above_their_bytes_are_refused() {
         let refusal = |instruction, generation| step_bytes(&mut [0; STATE_LENGTH], instruction, generation, 0, 0).to_string();
-        assert_eq!(refusal((1 << 32) + 14, 1), "refused 3");
+        for instruction in [(1 << 32) + 14, (1 << 8) + 11, (1 << 63) + 19] {
+            assert_eq!(refusal(instruction, 1), "refused 3");
+        }
         assert_eq!(refusal(14, (1 << 32) + 1), "refused 2");
         assert_eq!(refusal(15, 3), "refused 2");
         assert_eq!(step_bytes(&mut [], 15, 3, 0, 0).to_string(), "refused 1");

@@ -1,5 +1,8 @@
-use crate::{Answer, Call, Field, Generation, Instruction, State, fields, normal, reference, step};
+use crate::{Answer, Call, Field, Generation, Instruction, Refusal, State, fields, normal, reference, step};
 use std::fmt;
+
+/// How the words of a field's value end that the unit does not cover.
+const NOT_COVERED: &str = "not covered";
 
 /// An operand told field by field. `{}` writes it out.
 #[derive(Debug)]
@@ -90,24 +93,61 @@ impl fmt::Display for Explanation {
         if self.answer.is_done() {
             writeln!(f, "normal operand {:#018x}", self.normal)?;
         }
+        if self.answer == Answer::Refused(Refusal::NotCovered) {
+            writeln!(f, "not covered here: {}", self.not_covered())?;
+        }
         writeln!(f, "answer: {:#}", self.answer)
     }
 }
 
 impl Explanation {
+    /// The fields by which an operand is not covered.
+    fn not_covered(&self) -> String {
+        let by = |&(field, value): &(&Field, u64)| {
+            let shuffle = value != 0 && matches!(field.name, "x_shuffle" | "y_shuffle");
+            let words = self.words(field, value).is_some_and(|words| words.ends_with(NOT_COVERED));
+            (shuffle || words).then_some(if field.name == "skip_z" { "skip_x and skip_y, both 0" } else { field.short })
+        };
+        self.fields.iter().filter_map(by).collect::<Vec<_>>().join(", ")
+    }
+
+    /// The value of a field, 0 where the operand does not have it.
+    fn get(&self, name: &str) -> u64 {
+        self.fields.iter().find(|(field, _)| field.name == name).map_or(0, |&(_, value)| value)
+    }
+
     /// What a field's value says, where the number alone does not.
     fn words(&self, field: &Field, value: u64) -> Option<String> {
-        let get = |name| self.fields.iter().find(|(field, _)| field.name == name).map_or(0, |&(_, value)| value);
-        let (side, offset) = if get("index_y") == 1 { ("Y", "y_offset") } else { ("X", "x_offset") };
+        let lanes = if self.instruction == Instruction::Fms64 { 8 } else { 32 };
         match field.name {
-            "x_enable_value" => Some(mac16_mask(get("x_enable_mode"), value)),
-            "y_enable_value" => Some(mac16_mask(get("y_enable_mode"), value)),
+            "x_enable_value" => Some(side_mask(self.get("x_enable_mode"), value, lanes)),
+            "y_enable_value" => Some(side_mask(self.get("y_enable_mode"), value, lanes)),
+            "broadcast_mode" => Some(broadcast(value).to_owned()),
+            "skip_z" => Some(format!("the lane becomes {}", self.skipping_operation())),
+            name if self.instruction == Instruction::Vecfp => self.vecfp_words(name, value),
+            name => self.vecint_words(name, value),
+        }
+    }
+
+    fn vecfp_words(&self, name: &str, value: u64) -> Option<String> {
+        match name {
+            "enable_value" => Some(vector_mask(self.get("enable_mode"), value)),
+            "alu_mode" => Some(float_operation(value).to_owned()),
+            "indexed" if value == 1 => Some(NOT_COVERED.to_owned()),
+            "lane_widths" => Some(float_widths(value).to_owned()),
+            _ => None,
+        }
+    }
+
+    fn vecint_words(&self, name: &str, value: u64) -> Option<String> {
+        let get = |name| self.get(name);
+        let (side, offset) = if get("index_y") == 1 { ("Y", "y_offset") } else { ("X", "x_offset") };
+        match name {
             "enable_value" => {
                 let two = has_two_masks(get("alu_mode"), get("lane_widths"), get("enable_mode"), value);
                 let both = if two { " at X's lane width and at Y's, both needed" } else { "" };
-                Some(vecint_mask(get("enable_mode"), value) + both)
+                Some(vector_mask(get("enable_mode"), value) + both)
             }
-            "broadcast_mode" => Some(broadcast(value).to_owned()),
             "alu_mode" => Some(operation(value).to_owned()),
             "indexed" if value == 1 => Some(format!("done as ALU mode 0, {}", operation(0))),
             "index_register" => Some(format!("bytes {}..{} of {side}", 64 * value, 64 * value + 63)),
@@ -118,21 +158,27 @@ impl Explanation {
                 let repeats = if side == "X" { [2, 6] } else { [3, 7] }.contains(&get("broadcast_mode"));
                 Some(indices(64 * index_bits / lane_bits(side, get("lane_widths")), get("several") == 1, repeats))
             }
-            "skip_z" => Some(format!("the lane becomes {}", mac16_operation(get("skip_x"), get("skip_y"), value))),
             "lane_widths" => Some(widths(get("alu_mode"), value).to_owned()),
             _ => None,
         }
     }
+
+    /// What a mac16 or an fms64 does with what it does not skip.
+    fn skipping_operation(&self) -> &'static str {
+        let skips = ["skip_x", "skip_y", "skip_z"].map(|name| self.get(name));
+        if self.instruction == Instruction::Fms64 { fms64_operation(skips) } else { mac16_operation(skips) }
+    }
 }
 
-fn mac16_mask(mode: u64, n: u64) -> String {
+/// An enable mode and value of X or of Y, of so many lanes.
+fn side_mask(mode: u64, n: u64, lanes: u64) -> String {
     match (mode, n) {
-        (1, n) => format!("lane {n} alone"),
+        (1, n) if n < lanes => format!("lane {n} alone"),
         _ => mask(mode, n),
     }
 }
 
-fn vecint_mask(mode: u64, n: u64) -> String {
+fn vector_mask(mode: u64, n: u64) -> String {
     match (mode, n) {
         (0, 3) => "all lanes, and the output is 0".to_owned(),
         (0, 4) => "all lanes, and X reads as 0".to_owned(),
@@ -192,16 +238,51 @@ fn lane_bits(side: &str, widths: u64) -> u64 {
     }
 }
 
-fn mac16_operation(skip_x: u64, skip_y: u64, skip_z: u64) -> &'static str {
-    match (skip_x, skip_y, skip_z) {
-        (0, 0, 0) => "z + ((x*y) >> s)",
-        (0, 0, _) => "(x*y) >> s",
-        (0, _, 0) => "z + (x >> s)",
-        (0, _, _) => "x >> s",
-        (_, 0, 0) => "z + (y >> s)",
-        (_, 0, _) => "y >> s",
-        (_, _, 0) => "z",
+fn mac16_operation(skips: [u64; 3]) -> &'static str {
+    match skips {
+        [0, 0, 0] => "z + ((x*y) >> s)",
+        [0, 0, _] => "(x*y) >> s",
+        [0, _, 0] => "z + (x >> s)",
+        [0, _, _] => "x >> s",
+        [_, 0, 0] => "z + (y >> s)",
+        [_, 0, _] => "y >> s",
+        [_, _, 0] => "z",
         _ => "0",
+    }
+}
+
+fn fms64_operation(skips: [u64; 3]) -> &'static str {
+    match skips {
+        [0, 0, 0] => "z - x*y, not covered",
+        [0, 0, _] => "-(x*y), not covered",
+        [0, _, 0] => "z - x",
+        [0, _, _] => "-x",
+        [_, 0, 0] => "z - y",
+        [_, 0, _] => "-y",
+        [_, _, 0] => "z",
+        _ => "-0",
+    }
+}
+
+fn float_operation(mode: u64) -> &'static str {
+    match mode {
+        0 => "z + x*y, not covered",
+        1 => "z - x*y, not covered",
+        4 => "+0 where x <= 0, else y",
+        5 => "min(x, z), not covered",
+        7 => "max(x, z), not covered",
+        10 => "x*y",
+        11 => "z + x",
+        12 => "z + y",
+        _ => "none",
+    }
+}
+
+fn float_widths(number: u64) -> &'static str {
+    match number {
+        4 => "X, Y and Z f32",
+        7 => "X, Y and Z f64",
+        _ => "floats of 16 bits, not covered",
     }
 }
 

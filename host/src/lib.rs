@@ -1,11 +1,13 @@
-//! The AMX integer unit for people who write kernels: safe calls of the proved unit, libamx.a.
+//! The AMX unit, integers and floats, for people who write kernels: safe calls of the proved unit, libamx.a.
 //!
 //! - [`State`] holds the registers and the count of steps taken; [`step`] does one call on it, and [`step_bytes`] does so on bytes of any
 //!   length. A call names the count before it, its serial, so that one sent twice adds once.
 //! - [`Answer`] tells a step that was done from a no-op and a refusal, with the reason.
-//! - [`Mac16`] and [`Vecint`] build operands by field; [`explain`] goes back, with the ignored bits; [`normal`] clears those.
+//! - [`Mac16`], [`Vecint`], [`Vecfp`] and [`Fms64`] build operands by field; [`explain`] goes back, with the ignored bits; [`normal`]
+//!   clears those.
 //! - [`Trace`] reads and writes trace files, whole ones and such as go on from a [`Checkpoint`]; [`text`] does so with their texts.
-//! - [`mod@reference`] is a second program for the same pages. Nothing here relies on it but [`lane_grid`]; the `compare` program runs both.
+//! - [`mod@reference`] is a second program for the same pages, whose floats are whole numbers ([`rounding`]). Nothing here relies on it but
+//!   [`lane_grid`]; the `compare` program runs both.
 //!
 //! ```
 //! use amx::{Answer, Call, Generation, Register, State, Vecint, Vectors, Width, step};
@@ -20,6 +22,30 @@
 //! assert_eq!(state.signed_lane(Register::Z(0), 0, Width::Bits16), -255);
 //! # Ok::<(), amx::FieldError>(())
 //! ```
+//!
+//! # Floats
+//!
+//! Each float lane is one operation, rounded once, to nearest with ties to even; subnormals are kept, and a result that is not a number is
+//! the default NaN. A host must keep the floating-point environment that programs start with: rounding to nearest, and neither
+//! flush-to-zero nor denormals-are-zero (bits of MXCSR on x86-64). The safe call restores nothing: [`step`] neither sets these, nor tests
+//! them, nor puts them back.
+//!
+//! ```
+//! use amx::{Answer, Call, Float, Generation, Register, State, Vecfp, Vectors, step};
+//!
+//! // 1 + 2^-24 ties between 1 and the f32 after it, and 1 is even; inf - inf is the default NaN
+//! let mut state = State::new();
+//! state.set_f32(Register::Z(0), 0, 1.0);
+//! state.set_f32(Register::X(0), 0, (2.0f32).powi(-24));
+//! state.set_f32(Register::Z(0), 1, f32::INFINITY);
+//! state.set_f32(Register::X(0), 1, f32::NEG_INFINITY);
+//! let fields = Vecfp::new(11, Float::Single, Vectors::One)?;
+//!
+//! assert_eq!(step(&mut state, Call::vecfp(Generation::M2, fields), 0), Answer::Done { bytes: 64 });
+//! assert_eq!(state.f32_lane(Register::Z(0), 0), 1.0);
+//! assert_eq!(state.f32_lane(Register::Z(0), 1).to_bits(), 0x7fc0_0000);
+//! # Ok::<(), amx::FieldError>(())
+//! ```
 #![deny(unsafe_code)] // but for the four calls of libamx.a
 #![warn(missing_docs)]
 
@@ -29,6 +55,7 @@ mod explain;
 mod operand;
 pub mod random;
 pub mod reference;
+pub mod rounding;
 mod state;
 pub mod text;
 mod trace;
@@ -36,6 +63,6 @@ mod trace;
 pub use answer::{Answer, Reason, Refusal};
 pub use call::{Call, Generation, Instruction, checkpoint_bytes, normal, run, step, step_bytes};
 pub use explain::{Explanation, explain, lane_grid};
-pub use operand::{Field, FieldError, IndexBits, Mac16, Side, Vecint, Vectors, When, fields, with_field};
+pub use operand::{Field, FieldError, Float, Fms64, IndexBits, Mac16, Side, Vecfp, Vecint, Vectors, When, fields, with_field};
 pub use state::{REGISTER_BYTES, Register, STATE_LENGTH, State, Width};
 pub use trace::{CHECKPOINT_LENGTH, Checkpoint, FileRefusal, NoCheckpoint, NoRecord, Record, Trace, TraceFull};

@@ -9,7 +9,7 @@ use std::{
 };
 
 const HELP: &str = "\
-amx: the proved AMX integer unit, by hand
+amx: the proved AMX unit, integers and floats, by hand
 
   amx asm TEXT -o TRACE   makes a trace file of a text of steps
   amx dis TRACE           prints the text of a trace file; asm makes the same file of it
@@ -21,7 +21,7 @@ amx: the proved AMX integer unit, by hand
   amx --help              prints this
 
 STEP is INSTRUCTION GENERATION OPERAND, say 14 1 0x8000000000000000, or a step as in a text, say 'mac16 m1 vector'.
-Instructions are 14 (mac16) and 18 (vecint), generations 1 (M1) and 2 (M2). Numbers are decimal, 0x.. or 0b...
+Instructions are 11 (fms64), 14 (mac16), 18 (vecint) and 19 (vecfp), generations 1 (M1) and 2 (M2). Numbers are decimal, 0x.. or 0b...
 A file that holds a byte 0 is taken for a trace, any other for a text.
 
 A text has one step in a line; what follows a # is a comment:
@@ -29,11 +29,15 @@ A text has one step in a line; what follows a # is a comment:
   x: 0300 0500                        bytes of X from its first, in hex; y: the same for Y
   x 1: 0700                           bytes of register 1 of X (0 to 7); y 1: the same for Y
   z 3: ff7f                           bytes of row 3 of Z (0 to 63); bytes not given are 0
+  x f32: 1.5 -0 nan                   float lanes from the first, f32 or f64; also x 1 f32:, y f64:, z 3 f64: and so on
+  z 3 f64: 2e-3 -inf 0x1              a lane is a decimal, rounded to nearest, inf, -inf, nan (the default NaN) or a pattern in hex
   mac16 m1 vector x=0 y=64 z_row=3    instruction, m1 or m2, fields by name; fields not named are 0
   vecint m2 mode=0 widths=3 x_signed  a field of one bit may stand alone for 1
   vecint m2 several four z_row=5      two or four vectors: several, and four
   vecint m1 indexed index_register=3  X by the indices at its offset, into its register 3; index_y for Y
   vecint m1 bits=0x200                bits that have no name
+  vecfp m2 mode=10 widths=4 x=64      floats: widths 4 are f32 lanes, widths 7 are f64 lanes
+  fms64 m1 vector skip_y z_row=3      f64 lanes; X or Y is to be skipped
   raw 18 2 0x80000000                 a step by its numbers, any
   checkpoint                          the steps above are consumed; the lines of a state that follow are what the rest goes on from:
   count: 2                            its count of steps taken, and its bytes by x:, y: and z N:; what is not given is 0
@@ -44,6 +48,10 @@ A text has one step in a line; what follows a # is a comment:
                   in mode 4, for x_signed and y_signed: z_signed rounding saturate saturate_signed
                   an indexed load, for mode: indexed index_y index_4_bits index_register
                   not covered by the unit: x_shuffle y_shuffle reserved
+  vecfp fields:   mode (4, 10, 11, 12) widths (4, 7) z_row x y
+                  one vector: enable_mode enable_value; several (m2): several four broadcast_mode
+                  not covered by the unit: x_shuffle y_shuffle reserved indexed index_y index_4_bits index_register
+  fms64 fields:   vector x_enable_mode x_enable_value y_enable_mode y_enable_value skip_x skip_y skip_z z_row x y
 
 An error names the line and what was expected, ends with status 1 and writes no file.
 ";

@@ -18,7 +18,7 @@ pub struct Field {
     pub meaning: &'static str,
 }
 
-/// When a field is there: some bits of a vecint mean different things in different steps.
+/// When a field is there: some bits of a vecint or a vecfp mean different things in different steps.
 #[derive(Clone, Copy, Debug, PartialEq, Eq)]
 pub enum When {
     /// In every operand.
@@ -40,7 +40,7 @@ pub enum When {
 }
 
 impl When {
-    /// Whether a vecint operand has fields of this kind. mac16 has none but those that are always there.
+    /// Whether an operand of vecint or vecfp has fields of this kind. mac16 and fms64 have none but those that are always there.
     fn holds(self, generation: Generation, operand: u64) -> bool {
         let indexed = operand >> 53 & 1 == 1;
         let mode_4 = !indexed && operand >> 47 & 63 == 4;
@@ -83,52 +83,112 @@ const fn short(field: Field, short: &'static str) -> Field {
 
 use When::*;
 
+const VECTOR: Field = field("vector", 63, 63, Always, "vector (1) or matrix (0)");
+const X_ENABLE_MODE: Field = field("x_enable_mode", 46, 47, Always, "X enable mode");
+const X_ENABLE_VALUE: Field = field("x_enable_value", 41, 45, Always, "X enable value");
+const Y_ENABLE_MODE: Field = field("y_enable_mode", 37, 38, Always, "Y enable mode");
+const Y_ENABLE_VALUE: Field = field("y_enable_value", 32, 36, Always, "Y enable value");
+const SKIP_X: Field = field("skip_x", 29, 29, Always, "skip X (1) or use it (0)");
+const SKIP_Y: Field = field("skip_y", 28, 28, Always, "skip Y (1) or use it (0)");
+const X_OFFSET: Field = short(field("x_offset", 10, 18, Always, "X offset in bytes"), "x");
+const Y_OFFSET: Field = short(field("y_offset", 0, 8, Always, "Y offset in bytes"), "y");
+
+static FMS64: [Field; 11] = [
+    VECTOR,
+    X_ENABLE_MODE,
+    X_ENABLE_VALUE,
+    Y_ENABLE_MODE,
+    Y_ENABLE_VALUE,
+    SKIP_X,
+    SKIP_Y,
+    field("skip_z", 27, 27, Always, "skip old Z (1) or subtract from it (0)"),
+    field("z_row", 20, 25, Always, "Z row"),
+    X_OFFSET,
+    Y_OFFSET,
+];
+
 static MAC16: [Field; 15] = [
-    field("vector", 63, 63, Always, "vector (1) or matrix (0)"),
+    VECTOR,
     field("z_i32", 62, 62, Always, "Z is 32-bit (1) or 16-bit (0), in a matrix"),
     field("x_i8", 61, 61, Always, "X is i8, the low byte of its lane (1), or i16 (0)"),
     field("y_i8", 60, 60, Always, "Y is i8, the low byte of its lane (1), or i16 (0)"),
     field("shift", 55, 59, Always, "right shift"),
-    field("x_enable_mode", 46, 47, Always, "X enable mode"),
-    field("x_enable_value", 41, 45, Always, "X enable value"),
-    field("y_enable_mode", 37, 38, Always, "Y enable mode"),
-    field("y_enable_value", 32, 36, Always, "Y enable value"),
-    field("skip_x", 29, 29, Always, "skip X (1) or use it (0)"),
-    field("skip_y", 28, 28, Always, "skip Y (1) or use it (0)"),
+    X_ENABLE_MODE,
+    X_ENABLE_VALUE,
+    Y_ENABLE_MODE,
+    Y_ENABLE_VALUE,
+    SKIP_X,
+    SKIP_Y,
     field("skip_z", 27, 27, Always, "skip old Z (1) or add to it (0)"),
     field("z_row", 20, 25, Always, "Z row"),
-    short(field("x_offset", 10, 18, Always, "X offset in bytes"), "x"),
-    short(field("y_offset", 0, 8, Always, "Y offset in bytes"), "y"),
+    X_OFFSET,
+    Y_OFFSET,
 ];
 
+const SEVERAL: Field = field("several", 31, 31, OnM2, "several vectors (1) or one (0)");
+const INDEXED: Field = field("indexed", 53, 53, Always, "indexed load (1) or plain load (0)");
+const ALU_MODE: Field = short(field("alu_mode", 47, 52, NotIndexed, "ALU mode"), "mode");
+const RESERVED: Field = field("reserved", 54, 56, Always, "must be 0, a no-op otherwise");
+const INDEX_REGISTER: Field = field("index_register", 49, 51, Indexed, "register to index into");
+const INDEX_4_BITS: Field = field("index_4_bits", 48, 48, Indexed, "indices of 4 bits (1) or 2 bits (0)");
+const INDEX_Y: Field = field("index_y", 47, 47, Indexed, "indexed load of Y (1) or X (0)");
+const LANE_WIDTHS: Field = short(field("lane_widths", 42, 45, Always, "lane widths"), "widths");
+const ENABLE_MODE: Field = field("enable_mode", 38, 40, OneVector, "enable mode");
+const BROADCAST_MODE: Field = field("broadcast_mode", 32, 34, Several, "broadcast mode");
+const FOUR: Field = field("four", 25, 25, Several, "four vectors (1) or two (0)");
+const Z_ROW_OF_ONE: Field = field("z_row", 20, 25, OneVector, "Z row");
+// bit 25 of the row is `four` then, and no row bit above the stride matters
+const Z_ROW_OF_SEVERAL: Field = field("z_row", 20, 24, Several, "Z row of the first vector");
+
 // `several`, `indexed` and `alu_mode` decide which others are there, so they come first.
+static VECFP: [Field; 18] = [
+    SEVERAL,
+    INDEXED,
+    ALU_MODE,
+    RESERVED,
+    INDEX_REGISTER,
+    INDEX_4_BITS,
+    INDEX_Y,
+    LANE_WIDTHS,
+    ENABLE_MODE,
+    field("enable_value", 32, 36, OneVector, "enable value, or the lane of Y that is broadcast"),
+    BROADCAST_MODE,
+    field("x_shuffle", 29, 30, Always, "X shuffle, covered as 0 alone"),
+    field("y_shuffle", 27, 28, Always, "Y shuffle, covered as 0 alone"),
+    FOUR,
+    Z_ROW_OF_ONE,
+    Z_ROW_OF_SEVERAL,
+    X_OFFSET,
+    Y_OFFSET,
+];
+
+// in that order for the same reason
 static VECINT: [Field; 25] = [
-    field("several", 31, 31, OnM2, "several vectors (1) or one (0)"),
-    field("indexed", 53, 53, Always, "indexed load (1) or plain load (0)"),
-    short(field("alu_mode", 47, 52, NotIndexed, "ALU mode"), "mode"),
+    SEVERAL,
+    INDEXED,
+    ALU_MODE,
     field("x_signed", 63, 63, NotMode4, "X is signed (1) or unsigned (0)"),
     field("z_signed", 63, 63, Mode4, "Z is signed (1) or unsigned (0)"),
     field("shift", 58, 62, Always, "right shift"),
-    field("reserved", 54, 56, Always, "must be 0, a no-op otherwise"),
-    field("index_register", 49, 51, Indexed, "register to index into"),
-    field("index_4_bits", 48, 48, Indexed, "indices of 4 bits (1) or 2 bits (0)"),
-    field("index_y", 47, 47, Indexed, "indexed load of Y (1) or X (0)"),
-    short(field("lane_widths", 42, 45, Always, "lane widths"), "widths"),
-    field("enable_mode", 38, 40, OneVector, "enable mode"),
+    RESERVED,
+    INDEX_REGISTER,
+    INDEX_4_BITS,
+    INDEX_Y,
+    LANE_WIDTHS,
+    ENABLE_MODE,
     field("enable_value", 32, 37, OneVector, "enable value, or the lane of Y that is broadcast"),
-    field("broadcast_mode", 32, 34, Several, "broadcast mode"),
+    BROADCAST_MODE,
     field("saturate", 30, 30, Mode4, "clamp to the saturation width (1) or not (0)"),
     field("rounding", 29, 29, Mode4, "the shift rounds (1) or truncates (0)"),
     field("x_shuffle", 29, 30, NotMode4, "X shuffle, covered as 0 alone"),
     field("y_shuffle", 27, 28, NotMode4, "Y shuffle, covered as 0 alone"),
     field("y_signed", 26, 26, NotMode4, "Y is signed (1) or unsigned (0)"),
     field("saturate_signed", 26, 26, Mode4, "the saturation is signed (1) or unsigned (0)"),
-    field("four", 25, 25, Several, "four vectors (1) or two (0)"),
-    field("z_row", 20, 25, OneVector, "Z row"),
-    // bit 25 of the row is `four` then, and no row bit above the stride matters
-    field("z_row", 20, 24, Several, "Z row of the first vector"),
-    short(field("x_offset", 10, 18, Always, "X offset in bytes"), "x"),
-    short(field("y_offset", 0, 8, Always, "Y offset in bytes"), "y"),
+    FOUR,
+    Z_ROW_OF_ONE,
+    Z_ROW_OF_SEVERAL,
+    X_OFFSET,
+    Y_OFFSET,
 ];
 
 impl Field {
@@ -167,8 +227,10 @@ pub fn fields(instruction: Instruction, generation: Generation, operand: u64) ->
 
 fn table(instruction: Instruction) -> &'static [Field] {
     match instruction {
+        Instruction::Fms64 => &FMS64,
         Instruction::Mac16 => &MAC16,
         Instruction::Vecint => &VECINT,
+        Instruction::Vecfp => &VECFP,
     }
 }
 
@@ -271,7 +333,57 @@ pub struct Mac16(u64);
 #[derive(Clone, Copy, Debug, PartialEq, Eq, Hash)]
 pub struct Vecint(u64);
 
-/// How many vectors a vecint does. Two and four are M2's: M1 does one.
+/// An operand of vecfp, built field by field. ALU mode, format and vectors are given first: they decide which fields there are.
+///
+/// Indexed loads and shuffles are not covered, and not here; [`with_field`] has them.
+///
+/// ```
+/// use amx::{Answer, Call, Float, Generation, Register, State, Vecfp, Vectors, step};
+/// let fields = Vecfp::new(10, Float::Single, Vectors::One)?.z_row(3)?;
+/// assert_eq!(fields.operand(), 10 << 47 | 4 << 42 | 3 << 20);
+///
+/// let mut state = State::new();
+/// state.set_f32(Register::X(0), 2, 1.5);
+/// state.set_f32(Register::Y(0), 2, -0.5);
+/// assert_eq!(step(&mut state, Call::vecfp(Generation::M2, fields), 0), Answer::Done { bytes: 64 });
+/// assert_eq!(state.f32_lane(Register::Z(3), 2), -0.75);
+///
+/// assert_eq!(fields.enable_value(32).unwrap_err().to_string(), "enable_value (bits 32..36) is 0 to 31, not 32");
+/// # Ok::<(), amx::FieldError>(())
+/// ```
+#[derive(Clone, Copy, Debug, PartialEq, Eq, Hash)]
+pub struct Vecfp(u64);
+
+/// An operand of fms64, built field by field. X or Y is to be skipped: a step that uses both is not covered, and refused.
+///
+/// ```
+/// use amx::{Answer, Call, Fms64, Generation, Refusal, Register, State, step};
+/// let fields = Fms64::new().vector(true).skip_y(true).z_row(5)?;
+/// assert_eq!(fields.operand(), 1 << 63 | 1 << 28 | 5 << 20);
+///
+/// let mut state = State::new();
+/// state.set_f64(Register::X(0), 7, 0.25);
+/// state.set_f64(Register::Z(5), 7, 1.0);
+/// assert_eq!(step(&mut state, Call::fms64(Generation::M1, fields), 0), Answer::Done { bytes: 64 });
+/// assert_eq!(state.f64_lane(Register::Z(5), 7), 0.75);
+///
+/// let both = Call::fms64(Generation::M1, fields.skip_y(false));
+/// assert_eq!(step(&mut state, both, 1), Answer::Refused(Refusal::NotCovered));
+/// # Ok::<(), amx::FieldError>(())
+/// ```
+#[derive(Clone, Copy, Debug, Default, PartialEq, Eq, Hash)]
+pub struct Fms64(u64);
+
+/// The format of vecfp's lanes. The discriminant is the number of the lane widths.
+#[derive(Clone, Copy, Debug, PartialEq, Eq, Hash)]
+pub enum Float {
+    /// f32: 16 lanes in a row.
+    Single = 4,
+    /// f64: 8 lanes in a row.
+    Double = 7,
+}
+
+/// How many vectors a vecint or a vecfp does. Two and four are M2's: M1 does one.
 #[derive(Clone, Copy, Debug, PartialEq, Eq, Hash)]
 pub enum Vectors {
     /// One, with an enable mode and value.
@@ -316,25 +428,19 @@ impl Mac16 {
     pub fn new() -> Self {
         Mac16(0)
     }
+}
 
-    /// The operand.
-    pub fn operand(self) -> u64 {
-        self.0
-    }
-
-    fn set(self, name: &str, value: u64) -> Result<Self, FieldError> {
-        with_field(Instruction::Mac16, Generation::M2, self.0, name, value).map(Mac16)
-    }
-
-    fn flag(self, bit: u32, on: bool) -> Self {
-        Mac16(self.0 & !(1 << bit) | u64::from(on) << bit)
+impl Fms64 {
+    /// All fields 0: a matrix step with all lanes enabled that uses both X and Y, and is not covered before one of them is skipped.
+    pub fn new() -> Self {
+        Fms64(0)
     }
 }
 
 macro_rules! flags {
-    ($($bit:literal $name:ident $meaning:literal)*) => {
-        impl Mac16 {
-            $(#[doc = $meaning] pub fn $name(self, on: bool) -> Self { self.flag($bit, on) })*
+    ($builder:ident: $($bit:literal $name:ident $meaning:literal)*) => {
+        impl $builder {
+            $(#[doc = $meaning] pub fn $name(self, on: bool) -> Self { $builder(self.0 & !(1 << $bit) | u64::from(on) << $bit) })*
         }
     };
 }
@@ -342,12 +448,23 @@ macro_rules! flags {
 macro_rules! setters {
     ($builder:ident: $($name:ident($value:ty) $meaning:literal)*) => {
         impl $builder {
+            /// The operand.
+            pub fn operand(self) -> u64 {
+                self.0
+            }
+
+            fn set(self, name: &str, value: u64) -> Result<Self, FieldError> {
+                // several vectors are M2's; without bit 31 both generations have the same fields here
+                with_field(Instruction::$builder, Generation::M2, self.0, name, value).map($builder)
+            }
+
             $(#[doc = $meaning] pub fn $name(self, value: $value) -> Result<Self, FieldError> { self.set(stringify!($name), value.into()) })*
         }
     };
 }
 
 flags! {
+    Mac16:
     63 vector "Vector (true) or matrix: bit 63."
     62 z_i32 "Z is 32-bit, in a matrix: bit 62."
     61 x_i8 "X is i8, the low byte of each 16-bit lane: bit 61."
@@ -355,6 +472,14 @@ flags! {
     29 skip_x "Skip X: bit 29."
     28 skip_y "Skip Y: bit 28."
     27 skip_z "Skip Z, so that the result is not added to old Z: bit 27."
+}
+
+flags! {
+    Fms64:
+    63 vector "Vector (true) or matrix: bit 63."
+    29 skip_x "Skip X: bit 29."
+    28 skip_y "Skip Y: bit 28."
+    27 skip_z "Skip Z, so that the result is not subtracted from old Z: bit 27."
 }
 
 setters! {
@@ -400,16 +525,35 @@ impl Vecint {
     pub fn indexed(side: Side, indices: IndexBits, register: u64, vectors: Vectors) -> Result<Self, FieldError> {
         Vecint(vectors.bits() | 1 << 53 | (indices as u64) << 48 | (side as u64) << 47).set("index_register", register)
     }
+}
 
-    /// The operand.
-    pub fn operand(self) -> u64 {
-        self.0
+impl Vecfp {
+    /// An ALU mode, 0 to 63 (bits 47..52), the format of the lanes, and how many vectors; all other fields 0. Modes 4 and 10 to 12 are
+    /// covered; 0, 1, 5 and 7 are not, and all others are no-ops.
+    pub fn new(alu_mode: u64, format: Float, vectors: Vectors) -> Result<Self, FieldError> {
+        Vecfp(vectors.bits() | (format as u64) << 42).set("alu_mode", alu_mode)
     }
+}
 
-    fn set(self, name: &str, value: u64) -> Result<Self, FieldError> {
-        // several vectors are M2's; without bit 31 both generations have the same fields here
-        with_field(Instruction::Vecint, Generation::M2, self.0, name, value).map(Vecint)
-    }
+setters! {
+    Fms64:
+    x_enable_mode(u64) "X enable mode, 0 to 3: bits 46..47."
+    x_enable_value(u64) "X enable value, 0 to 31: bits 41..45. There are 8 lanes."
+    y_enable_mode(u64) "Y enable mode, 0 to 3: bits 37..38. Ignored in a vector step."
+    y_enable_value(u64) "Y enable value, 0 to 31: bits 32..36. Ignored in a vector step."
+    z_row(u64) "Z row, 0 to 63: bits 20..25. A matrix step looks at its lowest three bits only."
+    x_offset(u64) "X offset in bytes, 0 to 511: bits 10..18."
+    y_offset(u64) "Y offset in bytes, 0 to 511: bits 0..8."
+}
+
+setters! {
+    Vecfp:
+    enable_mode(u64) "Enable mode, 0 to 7: bits 38..40, with one vector."
+    enable_value(u64) "Enable value or the broadcast Y lane, 0 to 31: bits 32..36, with one vector."
+    broadcast_mode(u64) "Broadcast mode, 0 to 7: bits 32..34, with several vectors."
+    z_row(u64) "Z row: 0 to 63, bits 20..25; with several vectors that of the first, 0 to 31, bits 20..24."
+    x_offset(u64) "X offset in bytes, 0 to 511: bits 10..18."
+    y_offset(u64) "Y offset in bytes, 0 to 511: bits 0..8."
 }
 
 setters! {
@@ -438,7 +582,7 @@ mod tests {
     #[test]
     fn no_two_fields_of_an_operand_share_a_bit_or_a_name() {
         for operand in [0, 1 << 31, 4 << 47, 1 << 53, 1 << 31 | 4 << 47, 1 << 31 | 1 << 53, 4 << 47 | 1 << 53] {
-            for (instruction, generation) in [(Instruction::Mac16, M1), (Instruction::Vecint, M1), (Instruction::Vecint, M2)] {
+            for (instruction, generation) in Instruction::ALL.into_iter().flat_map(|instruction| [(instruction, M1), (instruction, M2)]) {
                 let (mut seen, mut names) = (0, Vec::new());
                 for field in fields(instruction, generation, operand) {
                     assert_eq!(seen & field.mask(), 0, "{}", field.name);
@@ -453,7 +597,7 @@ mod tests {
     #[test]
     fn every_setter_takes_its_range_and_no_more() {
         for operand in [0, 1 << 31, 4 << 47, 1 << 53] {
-            for instruction in [Instruction::Mac16, Instruction::Vecint] {
+            for instruction in Instruction::ALL {
                 for field in fields(instruction, M2, operand) {
                     let set = with_field(instruction, M2, operand, field.name, field.max()).unwrap();
                     assert_eq!(set, operand | field.mask());
@@ -487,6 +631,23 @@ mod tests {
         // register 1 stands where ALU mode 4 would, and is no mode
         let register_1 = Vecint::indexed(Side::X, IndexBits::Two, 1, Vectors::One).unwrap();
         assert!(register_1.rounding(true).is_err() && register_1.x_signed(true).is_ok());
+    }
+
+    #[test]
+    fn builders_of_floats_place_the_bits_that_the_documents_name() {
+        let fms64 = Fms64::new().vector(true).skip_x(true).skip_y(true).skip_z(true).skip_x(false);
+        assert_eq!(fms64.operand(), 1 << 63 | 3 << 27);
+        let all = fms64.x_enable_mode(3).and_then(|f| f.x_enable_value(31)?.y_enable_mode(3)?.y_enable_value(31)?.z_row(63)?.x_offset(511));
+        assert_eq!(all.unwrap().operand(), 1 << 63 | 127 << 41 | 127 << 32 | 3 << 27 | 63 << 20 | 511 << 10);
+
+        let single = Vecfp::new(4, Float::Single, Vectors::One).unwrap();
+        let all = single.enable_mode(7).and_then(|f| f.enable_value(31)?.z_row(63)?.y_offset(511));
+        assert_eq!(all.unwrap().operand(), 4 << 47 | 4 << 42 | 7 << 38 | 31 << 32 | 63 << 20 | 511);
+        let double = Vecfp::new(12, Float::Double, Vectors::Four).unwrap().broadcast_mode(7).and_then(|f| f.z_row(31)).unwrap();
+        assert_eq!(double.operand(), 12 << 47 | 7 << 42 | 7 << 32 | 1 << 31 | 1 << 25 | 31 << 20);
+        assert!(
+            single.broadcast_mode(0).is_err() && double.enable_value(0).is_err() && Vecfp::new(64, Float::Single, Vectors::One).is_err()
+        );
     }
 
     #[test]

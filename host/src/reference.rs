@@ -1,9 +1,12 @@
-//! A second program for the same pages: both instructions, the normal operand, the terms of the swap rule, the trace text, and traces cut
-//! in two.
+//! A second program for the same pages: the four instructions, the normal operand, the terms of the swap rule, the trace text, and traces
+//! cut in two.
 //!
 //! Written from the scope's text lane by lane, for plainness and not for speed. It shares no code with the proved unit nor with the rest
-//! of this crate, so that a misreading in one of them shows when they are compared. Answers are the host's numbers: the Z bytes in
-//! enabled lanes, 65,536 + the reason of a no-op, 131,072 + the number of a refusal.
+//! of this crate, so that a misreading in one of them shows when they are compared; its floats are [`rounding`](crate::rounding)'s, in
+//! whole numbers, where the proved unit has the processor's. Answers are the host's numbers: the Z bytes in enabled lanes, 65,536 + the
+//! reason of a no-op, 131,072 + the number of a refusal.
+
+use crate::rounding::{DOUBLE, Format, SINGLE};
 
 const NO_OP: u64 = 65_536;
 const REFUSED: u64 = 131_072;
@@ -33,7 +36,7 @@ pub struct Lane {
     pub row: usize,
     /// The lane in its row.
     pub lane: usize,
-    /// The lane's bytes: 1, 2 or 4.
+    /// The lane's bytes: 1, 2, 4 or 8.
     pub bytes: usize,
     /// Which of several vectors, and the X and Y lanes that come here.
     vector: usize,
@@ -53,7 +56,7 @@ fn unknown(instruction: u64, generation: u64) -> Option<u64> {
     if generation != 1 && generation != 2 {
         return Some(REFUSED + 2);
     }
-    if instruction != 14 && instruction != 18 {
+    if !matches!(instruction, 11 | 14 | 18 | 19) {
         return Some(REFUSED + 3);
     }
     None
@@ -86,42 +89,49 @@ fn not_done(instruction: u64, generation: u64, operand: u64) -> Option<u64> {
     if let Some(refusal) = unknown(instruction, generation) {
         return Some(refusal);
     }
-    if instruction == 14 {
-        return None;
-    }
-    let mode = alu_mode(operand);
+    let (mode, shuffled) = (alu_mode(operand), bits(operand, 27, 30) != 0);
+    let (modes, covered): (&[usize], bool) = match instruction {
+        11 => return (!bit(operand, 29) && !bit(operand, 28)).then_some(REFUSED + 4),
+        14 => return None,
+        18 => (&[0, 1, 2, 3, 4, 5, 6, 10, 11, 12], mode == 4 || !shuffled),
+        _ => {
+            let (covered_mode, covered_width) = (matches!(mode, 4 | 10 | 11 | 12), matches!(bits(operand, 42, 45), 4 | 7));
+            (&[0, 1, 4, 5, 7, 10, 11, 12], !bit(operand, 53) && covered_mode && covered_width && !shuffled)
+        }
+    };
     if bits(operand, 54, 56) != 0 {
         return Some(NO_OP + 1);
     }
-    if matches!(mode, 7..=9) || mode > 12 {
+    if !modes.contains(&mode) {
         return Some(NO_OP + 2);
     }
     if matches!(mode, 10..=12) && generation == 1 {
         return Some(NO_OP + 3);
     }
-    if mode != 4 && bits(operand, 27, 30) != 0 {
-        return Some(REFUSED + 4);
-    }
-    None
+    (!covered).then_some(REFUSED + 4)
 }
 
 /// The Z lanes that a call enables where it is sent with the serial due, none where it isn't done.
 pub fn lanes(instruction: u64, generation: u64, operand: u64) -> Vec<Lane> {
     match (not_done(instruction, generation, operand), instruction) {
         (Some(_), _) => Vec::new(),
+        (None, 11) => fms64_lanes(operand),
         (None, 14) => mac16_lanes(operand),
-        _ => vecint_lanes(generation, operand),
+        (None, 18) => vecint_lanes(generation, operand),
+        _ => vecfp_lanes(generation, operand),
     }
 }
 
-/// Whether a step only adds to Z, so that it may be swapped with another such step of the same lane width.
+/// Whether a step only adds to Z, so that it may be swapped with another such step of the same lane width. Sums of floats are rounded, so
+/// their order shows: no float step does.
 pub fn only_adds(instruction: u64, generation: u64, operand: u64) -> bool {
     if not_done(instruction, generation, operand).is_some() {
         return false;
     }
     match instruction {
         14 => !bit(operand, 27),
-        _ => matches!(alu_mode(operand), 0..=3 | 11 | 12) && !output_forced_to_0(generation, operand),
+        18 => matches!(alu_mode(operand), 0..=3 | 11 | 12) && !output_forced_to_0(generation, operand),
+        _ => false,
     }
 }
 
@@ -145,8 +155,10 @@ pub fn step(state: &mut [u8], instruction: u64, generation: u64, operand: u64, s
 fn done(state: &mut [u8], instruction: u64, generation: u64, operand: u64) -> u64 {
     let enabled = lanes(instruction, generation, operand);
     match instruction {
+        11 => fms64(state, &enabled, operand),
         14 => mac16(state, &enabled, operand),
-        _ => vecint(state, &enabled, generation, operand),
+        18 => vecint(state, &enabled, generation, operand),
+        _ => vecfp(state, &enabled, generation, operand),
     }
     enabled.iter().map(|lane| lane.bytes as u64).sum()
 }
@@ -163,7 +175,7 @@ fn number(bytes: &[u8], signed: bool) -> i64 {
     if signed && unsigned >= span / 2 { unsigned - span } else { unsigned }
 }
 
-/// The little-endian number in 8 bytes.
+/// The little-endian number in up to 8 bytes, unsigned.
 fn u64_in(bytes: &[u8]) -> u64 {
     bytes.iter().rev().fold(0, |n, &byte| n << 8 | u64::from(byte))
 }
@@ -175,7 +187,7 @@ fn store(state: &mut [u8], lane: &Lane, result: i64) {
     }
 }
 
-/// Enable modes 0, 2 and 3 as both instructions have them: lane `i` of `count`.
+/// Enable modes 0, 2 and 3 as all instructions have them: lane `i` of `count`.
 fn common_mask(mode: usize, n: usize, i: usize, count: usize) -> bool {
     match (mode, n) {
         (0, 0) => true,
@@ -188,10 +200,14 @@ fn common_mask(mode: usize, n: usize, i: usize, count: usize) -> bool {
     }
 }
 
+/// The masks of X and of Y that mac16 and fms64 have: lane `i` of `count`. There is no lane `count` that mode 1 could enable.
+fn side_mask(operand: u64, x: bool, i: usize, count: usize) -> bool {
+    let (mode, n) = if x { (bits(operand, 46, 47), bits(operand, 41, 45)) } else { (bits(operand, 37, 38), bits(operand, 32, 36)) };
+    if mode == 1 { i == n } else { common_mask(mode, n, i, count) }
+}
+
 fn mac16_lanes(operand: u64) -> Vec<Lane> {
-    let mask = |mode, n, i| if mode == 1 { i == n } else { common_mask(mode, n, i, 32) };
-    let x_on = |i| mask(bits(operand, 46, 47), bits(operand, 41, 45), i);
-    let y_on = |j| mask(bits(operand, 37, 38), bits(operand, 32, 36), j);
+    let (x_on, y_on) = (|i| side_mask(operand, true, i, 32), |j| side_mask(operand, false, j, 32));
     let z_row = bits(operand, 20, 25);
     let mut enabled = Vec::with_capacity(1_024);
     for i in (0..32).filter(|&i| x_on(i)) {
@@ -230,7 +246,41 @@ fn mac16(state: &mut [u8], enabled: &[Lane], operand: u64) {
     }
 }
 
-/// vecint's ALU mode: 0 in an indexed load, whose own fields stand in the mode's bits.
+fn fms64_lanes(operand: u64) -> Vec<Lane> {
+    let z_row = bits(operand, 20, 25);
+    let mut enabled = Vec::with_capacity(64);
+    for i in (0..8).filter(|&i| side_mask(operand, true, i, 8)) {
+        if bit(operand, 63) {
+            enabled.push(Lane { row: z_row, lane: i, bytes: 8, vector: 0, x: i, y: i });
+            continue;
+        }
+        for j in (0..8).filter(|&j| side_mask(operand, false, j, 8)) {
+            enabled.push(Lane { row: 8 * j + z_row % 8, lane: i, bytes: 8, vector: 0, x: i, y: j });
+        }
+    }
+    enabled
+}
+
+fn fms64(state: &mut [u8], enabled: &[Lane], operand: u64) {
+    let x = load(&state[..512], bits(operand, 10, 18));
+    let y = load(&state[512..Z], bits(operand, 0, 8));
+    for lane in enabled {
+        let x = u64_in(&x[8 * lane.x..][..8]);
+        let y = u64_in(&y[8 * lane.y..][..8]);
+        let z = u64_in(&state[lane.start()..][..8]);
+        let result = match (bit(operand, 29), bit(operand, 28), bit(operand, 27)) {
+            (false, _, false) => DOUBLE.difference(z, x), // Y is skipped: it is not done otherwise
+            (false, _, true) => DOUBLE.negated(x),
+            (true, false, false) => DOUBLE.difference(z, y),
+            (true, false, true) => DOUBLE.negated(y),
+            (true, true, false) => z,
+            (true, true, true) => DOUBLE.sign(), // -0
+        };
+        store(state, lane, result as i64);
+    }
+}
+
+/// The ALU mode of vecint and vecfp: 0 in an indexed load, whose own fields stand in the mode's bits.
 fn alu_mode(operand: u64) -> usize {
     if bit(operand, 53) { 0 } else { bits(operand, 47, 52) }
 }
@@ -278,7 +328,7 @@ fn output_forced_to_0(generation: u64, operand: u64) -> bool {
     broadcast(generation, operand) == Some(1) || enable(generation, operand) == Some((0, 3))
 }
 
-fn vecint_mask(mode: usize, n: usize, i: usize, count: usize) -> bool {
+fn vector_mask(mode: usize, n: usize, i: usize, count: usize) -> bool {
     match (mode, n) {
         (0, 3..=5) | (1, _) => true,
         (4, n) => i < n,
@@ -295,6 +345,17 @@ fn vecint_lanes(generation: u64, operand: u64) -> Vec<Lane> {
     } else {
         widths(operand)
     };
+    vector_lanes(generation, operand, x_bits, y_bits, z_bits)
+}
+
+/// vecfp's lanes are of one width, and a vector has one row.
+fn vecfp_lanes(generation: u64, operand: u64) -> Vec<Lane> {
+    let bits = float_format(operand).bits as usize;
+    vector_lanes(generation, without_bit_37(operand), bits, bits, bits)
+}
+
+/// The enabled lanes of one vector, two or four, by the bits of an X, a Y and a Z lane.
+fn vector_lanes(generation: u64, operand: u64, x_bits: usize, y_bits: usize, z_bits: usize) -> Vec<Lane> {
     let (vectors, stride) = match (several_vectors(generation, operand), bit(operand, 25)) {
         (false, _) => (1, 64),
         (true, false) => (2, 32),
@@ -309,7 +370,7 @@ fn vecint_lanes(generation: u64, operand: u64) -> Vec<Lane> {
             let (mut x, mut y) = (k * narrower / x_bits, k * narrower / y_bits);
             if let Some((mode, n)) = enable(generation, operand) {
                 // read at X's lane width and at Y's: both must allow the lane
-                if !vecint_mask(mode, n, x, 512 / x_bits) || !vecint_mask(mode, n, y, 512 / y_bits) {
+                if !vector_mask(mode, n, x, 512 / x_bits) || !vector_mask(mode, n, y, 512 / y_bits) {
                     continue;
                 }
                 if mode == 1 {
@@ -354,6 +415,17 @@ fn loaded(ring: &[u8], offset: usize, lane_bits: usize, same: bool, indexed: Opt
     })
 }
 
+/// What X and Y give to each vector. A side that reads as 0 is all bytes 0, which is +0 of floats.
+fn sides(state: &[u8], generation: u64, operand: u64, x_bits: usize, y_bits: usize) -> ([[u8; 64]; 4], [[u8; 64]; 4]) {
+    let (broadcast, enable) = (broadcast(generation, operand), enable(generation, operand));
+    let x_read_as_0 = broadcast == Some(4) || enable == Some((0, 4));
+    let y_read_as_0 = broadcast == Some(5) || enable == Some((0, 5));
+    let (same_x, same_y) = (matches!(broadcast, Some(2 | 6)), matches!(broadcast, Some(3 | 7)));
+    let x = loaded(&state[..512], bits(operand, 10, 18), x_bits, same_x, indexed(operand, false));
+    let y = loaded(&state[512..Z], bits(operand, 0, 8), y_bits, same_y, indexed(operand, true));
+    (if x_read_as_0 { [[0; 64]; 4] } else { x }, if y_read_as_0 { [[0; 64]; 4] } else { y })
+}
+
 fn vecint(state: &mut [u8], enabled: &[Lane], generation: u64, operand: u64) {
     let mode = alu_mode(operand);
     let shift = bits(operand, 58, 62);
@@ -366,17 +438,12 @@ fn vecint(state: &mut [u8], enabled: &[Lane], generation: u64, operand: u64) {
             store(state, lane, reduced(z, shift, operand));
         });
     }
-    let (broadcast, enable) = (broadcast(generation, operand), enable(generation, operand));
-    let x_read_as_0 = broadcast == Some(4) || enable == Some((0, 4));
-    let y_read_as_0 = broadcast == Some(5) || enable == Some((0, 5));
-    let (same_x, same_y) = (matches!(broadcast, Some(2 | 6)), matches!(broadcast, Some(3 | 7)));
     let (x_bits, y_bits, _) = widths(operand);
-    let x = loaded(&state[..512], bits(operand, 10, 18), x_bits, same_x, indexed(operand, false));
-    let y = loaded(&state[512..Z], bits(operand, 0, 8), y_bits, same_y, indexed(operand, true));
+    let (x, y) = sides(state, generation, operand, x_bits, y_bits);
     let (x_bytes, y_bytes) = (x_bits / 8, y_bits / 8);
     for lane in enabled {
-        let x = if x_read_as_0 { 0 } else { number(&x[lane.vector][x_bytes * lane.x..][..x_bytes], bit(operand, 63)) };
-        let y = if y_read_as_0 { 0 } else { number(&y[lane.vector][y_bytes * lane.y..][..y_bytes], bit(operand, 26)) };
+        let x = number(&x[lane.vector][x_bytes * lane.x..][..x_bytes], bit(operand, 63));
+        let y = number(&y[lane.vector][y_bytes * lane.y..][..y_bytes], bit(operand, 26));
         let z = number(&state[lane.start()..][..lane.bytes], true);
         let result = match mode {
             0 => z + ((x * y) >> shift),
@@ -390,6 +457,39 @@ fn vecint(state: &mut [u8], enabled: &[Lane], generation: u64, operand: u64) {
             _ => z + (y >> shift), // 12: the others are not done
         };
         store(state, lane, result);
+    }
+}
+
+/// The format of vecfp's lanes: the others are not done.
+fn float_format(operand: u64) -> Format {
+    if bits(operand, 42, 45) == 4 { SINGLE } else { DOUBLE }
+}
+
+/// vecfp ignores the highest bit of what is vecint's enable value.
+fn without_bit_37(operand: u64) -> u64 {
+    operand & !(1 << 37)
+}
+
+fn vecfp(state: &mut [u8], enabled: &[Lane], generation: u64, operand: u64) {
+    let operand = without_bit_37(operand);
+    if output_forced_to_0(generation, operand) {
+        return enabled.iter().for_each(|lane| store(state, lane, 0));
+    }
+    let format = float_format(operand);
+    let (lane_bits, bytes) = (format.bits as usize, format.bits as usize / 8);
+    let (x, y) = sides(state, generation, operand, lane_bits, lane_bits);
+    for lane in enabled {
+        let x = u64_in(&x[lane.vector][bytes * lane.x..][..bytes]);
+        let y = u64_in(&y[lane.vector][bytes * lane.y..][..bytes]);
+        let z = u64_in(&state[lane.start()..][..bytes]);
+        let result = match alu_mode(operand) {
+            4 if format.at_most_0(x) => 0,
+            4 => y,
+            10 => format.product(x, y),
+            11 => format.sum(z, x),
+            _ => format.sum(z, y), // 12: the others are not done
+        };
+        store(state, lane, result as i64);
     }
 }
 
@@ -410,7 +510,12 @@ pub fn normal(instruction: u64, generation: u64, operand: u64) -> Result<u64, u6
     if let Some(answer) = not_done(instruction, generation, operand) {
         return Err(answer);
     }
-    let ignored = if instruction == 14 { mac16_ignored(operand) } else { vecint_ignored(generation, operand) };
+    let ignored = match instruction {
+        11 => fms64_ignored(operand),
+        14 => mac16_ignored(operand),
+        18 => vecint_ignored(generation, operand),
+        _ => vecfp_ignored(generation, operand),
+    };
     Ok(ignored.into_iter().flat_map(|(low, high)| low..=high).fold(operand, |operand, n| operand & !(1 << n)))
 }
 
@@ -424,12 +529,15 @@ fn mac16_ignored(operand: u64) -> Vec<(u32, u32)> {
     ranges
 }
 
-fn vecint_ignored(generation: u64, operand: u64) -> Vec<(u32, u32)> {
-    let mode = alu_mode(operand);
+fn fms64_ignored(operand: u64) -> Vec<(u32, u32)> {
+    let mut ranges = vec![(48, 62), (39, 40), (30, 31), (26, 26), (19, 19), (9, 9)];
+    ranges.push(if bit(operand, 63) { (32, 38) } else { (23, 25) });
+    ranges
+}
+
+/// What vecint and vecfp both ignore.
+fn vector_ignored(generation: u64, operand: u64) -> Vec<(u32, u32)> {
     let mut ranges = vec![(57, 57), (46, 46), (41, 41), (19, 19), (9, 9)];
-    if bit(operand, 53) {
-        ranges.push((52, 52));
-    }
     if generation == 1 {
         ranges.push((31, 31));
     }
@@ -438,6 +546,21 @@ fn vecint_ignored(generation: u64, operand: u64) -> Vec<(u32, u32)> {
         if bit(operand, 25) {
             ranges.push((24, 24));
         }
+    }
+    ranges
+}
+
+fn vecfp_ignored(generation: u64, operand: u64) -> Vec<(u32, u32)> {
+    let mut ranges = vector_ignored(generation, operand);
+    ranges.extend([(58, 63), (37, 37), (26, 26)]);
+    ranges
+}
+
+fn vecint_ignored(generation: u64, operand: u64) -> Vec<(u32, u32)> {
+    let mode = alu_mode(operand);
+    let mut ranges = vector_ignored(generation, operand);
+    if bit(operand, 53) {
+        ranges.push((52, 52));
     }
     if mode == 5 || mode == 6 {
         ranges.extend([(58, 62), (42, 45)]);

@@ -211,6 +211,51 @@ impl State {
         let bytes = &mut self.row_mut(register)[lane * width.bytes()..][..width.bytes()];
         bytes.copy_from_slice(&value.to_le_bytes()[..width.bytes()]);
     }
+
+    /// A lane of 32 bits as a float. [`lane`](Self::lane) has its pattern.
+    ///
+    /// ```
+    /// use amx::{Register, State, Width};
+    /// let mut state = State::new();
+    /// state.set_f32(Register::X(1), 15, -0.0);
+    /// assert_eq!(state.lane(Register::X(1), 15, Width::Bits32), 0x8000_0000);
+    /// state.set_f64(Register::Z(2), 0, 1.5);
+    /// assert_eq!((state.f64_lane(Register::Z(2), 0), state.f32_lane(Register::Z(2), 1)), (1.5, 1.9375));
+    /// ```
+    ///
+    /// # Panics
+    ///
+    /// Where there is no such register or lane, as a slice does.
+    pub fn f32_lane(&self, register: Register, lane: usize) -> f32 {
+        f32::from_le_bytes(self.row(register)[4 * lane..][..4].try_into().expect("four bytes"))
+    }
+
+    /// A lane of 64 bits as a float.
+    ///
+    /// # Panics
+    ///
+    /// Where there is no such register or lane, as a slice does.
+    pub fn f64_lane(&self, register: Register, lane: usize) -> f64 {
+        f64::from_le_bytes(self.row(register)[8 * lane..][..8].try_into().expect("eight bytes"))
+    }
+
+    /// Writes a lane of 32 bits; a pattern is written by [`f32::from_bits`].
+    ///
+    /// # Panics
+    ///
+    /// Where there is no such register or lane, as a slice does.
+    pub fn set_f32(&mut self, register: Register, lane: usize, value: f32) {
+        self.row_mut(register)[4 * lane..][..4].copy_from_slice(&value.to_le_bytes());
+    }
+
+    /// Writes a lane of 64 bits; a pattern is written by [`f64::from_bits`].
+    ///
+    /// # Panics
+    ///
+    /// Where there is no such register or lane, as a slice does.
+    pub fn set_f64(&mut self, register: Register, lane: usize, value: f64) {
+        self.row_mut(register)[8 * lane..][..8].copy_from_slice(&value.to_le_bytes());
+    }
 }
 
 impl Default for State {
@@ -249,6 +294,23 @@ mod tests {
         assert_eq!(state.signed_lane(Register::Z(63), 15, Width::Bits32), -7);
         assert_eq!(state.registers()[5_116..], [0xf9, 0xff, 0xff, 0xff]);
         assert_eq!(state.bytes()[5_116..], [0xf9, 0xff, 0xff, 0xff, 0, 0, 0, 0, 0, 0, 0, 0]);
+    }
+
+    #[test]
+    fn floats_are_their_patterns_little_endian() {
+        let mut state = State::new();
+        state.set_f32(Register::X(7), 15, f32::from_bits(0xffc0_0001));
+        state.set_f64(Register::Z(63), 7, f64::from_bits(0x7ff0_0000_0000_0203));
+        assert_eq!(state.x()[508..], [1, 0, 0xc0, 0xff]);
+        assert_eq!(state.registers()[5_112..], [3, 2, 0, 0, 0, 0, 0xf0, 0x7f]);
+        assert_eq!(state.f32_lane(Register::X(7), 15).to_bits(), 0xffc0_0001);
+        assert_eq!(state.f64_lane(Register::Z(63), 7).to_bits(), 0x7ff0_0000_0000_0203);
+    }
+
+    #[test]
+    #[should_panic(expected = "out of range")]
+    fn a_float_lane_past_the_last_panics() {
+        State::new().set_f64(Register::Z(0), 8, 1.0);
     }
 
     #[test]

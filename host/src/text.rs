@@ -6,10 +6,13 @@
 //! x: 03 00 05 00                                  # the starting state: bytes of X from 0 on, in hex
 //! y 1: 0200                                       # bytes of register 1 of Y, from its first
 //! z 3: ff7f                                       # bytes of row 3 of Z; all others are 0
+//! x 1 f32: 1.5 -0 2e-40 inf -inf nan 0x7f800001   # float lanes from the first on, f32 or f64: numbers, the default NaN, or patterns
 //! mac16 m1 vector x=0 y=64 z_row=3 shift=2        # steps: instruction, generation, fields by name; fields not named are 0
 //! vecint m2 several four widths=3 broadcast_mode=2
 //! vecint m1 indexed index_4_bits index_register=3 # X by indices of 4 bits into its register 3; index_y for Y
 //! vecint m1 shift=4 bits=0x200                    # bits= sets bits that have no name
+//! vecfp m2 mode=10 widths=4 x=64                  # f32 lanes are widths 4, f64 lanes 7
+//! fms64 m1 vector skip_y z_row=3                  # z - x
 //! raw 18 2 0x8000000000000000                     # a step by its numbers, any
 //! checkpoint                                      # the steps above are consumed, and the rest goes on from this state:
 //! count: 7                                        # its count, and its bytes as above; what is not given is 0
@@ -51,6 +54,9 @@ impl std::error::Error for TextError {}
 ///
 /// let error = assemble("mac16 m1 vector\nmac16 m1 shift=32\n").unwrap_err();
 /// assert_eq!(error.to_string(), "line 2: shift (bits 55..59) is 0 to 31, not 32");
+///
+/// let floats = assemble("x f32: 1.5 -0 nan\n").unwrap();
+/// assert_eq!(floats.start().x()[..12], [0, 0, 0xc0, 0x3f, 0, 0, 0, 0x80, 0, 0, 0xc0, 0x7f]);
 /// ```
 pub fn assemble(text: &str) -> Result<Trace, TextError> {
     let mut trace = Trace::new(State::new());
@@ -79,7 +85,7 @@ pub fn assemble(text: &str) -> Result<Trace, TextError> {
     Ok(trace)
 }
 
-/// The text of a trace: [`assemble`] makes the same trace of it.
+/// The text of a trace: [`assemble`] makes the same trace of it. A state is told by bytes, since it does not tell floats from numbers.
 pub fn disassemble(trace: &Trace) -> String {
     let (above, below) = trace.records().split_at(consumed(trace));
     let saved = trace.checkpoint().map(|checkpoint| format!("checkpoint\n{}", print_state(&checkpoint.state)));
@@ -120,19 +126,19 @@ fn consumed(trace: &Trace) -> usize {
 /// use amx::{Call, text::parse_call};
 /// assert_eq!(parse_call("raw 18 2 0x8000"), Ok(Call::new(18, 2, 0x8000)));
 /// assert_eq!(parse_call("vecint m2 mode=11 x=8"), Ok(Call::new(18, 2, 11 << 47 | 8 << 10)));
+/// assert_eq!(parse_call("vecfp m2 mode=10 widths=4"), Ok(Call::new(19, 2, 10 << 47 | 4 << 42)));
+/// assert_eq!(parse_call("fms64 m1 vector skip_y"), Ok(Call::new(11, 1, 1 << 63 | 1 << 28)));
 /// assert!(parse_call("vecint m1 four").unwrap_err().contains("only with several vectors"));
 /// ```
 pub fn parse_call(line: &str) -> Result<Call, String> {
     let mut words = line.split_whitespace();
-    let instruction = match words.next() {
-        Some("raw") => return raw(words.collect::<Vec<_>>().as_slice()),
-        Some("mac16") => Instruction::Mac16,
-        Some("vecint") => Instruction::Vecint,
-        Some(other) => {
-            return Err(format!("expected mac16, vecint, raw, or a line that is no step (x:, y:, z N:, checkpoint), not {other:?}"));
-        }
-        None => return Err("expected mac16, vecint or raw".to_owned()),
-    };
+    let names = Instruction::ALL.map(Instruction::name).join(", ");
+    let word = words.next().ok_or_else(|| format!("expected {names} or raw"))?;
+    if word == "raw" {
+        return raw(words.collect::<Vec<_>>().as_slice());
+    }
+    let instruction = Instruction::from_name(word)
+        .ok_or_else(|| format!("expected {names}, raw, or a line that is no step (x:, y:, z N:, checkpoint), not {word:?}"))?;
     let generation = match words.next() {
         Some("m1") => Generation::M1,
         Some("m2") => Generation::M2,
@@ -261,10 +267,12 @@ fn count_line(trace: &mut Trace, given: &mut [bool], number: &str) -> Result<(),
     Ok(())
 }
 
-/// `x`, `y`: bytes from the first on. `x N`, `y N`, `z N`: bytes of one register.
+/// `x`, `y`: bytes from the first on. `x N`, `y N`, `z N`: bytes of one register. With `f32` or `f64` behind, float lanes.
 fn state_line(registers: &mut [u8], given: &mut [bool], place: &str, digits: &str) -> Result<(), String> {
-    let wrong = || format!("expected x, x N, y, y N (N 0 to 7) or z N (0 to 63) before the colon, not {place:?}");
-    let words: Vec<&str> = place.split_whitespace().collect();
+    let wrong =
+        || format!("expected x, x N, y, y N (N 0 to 7) or z N (0 to 63), and f32 or f64 for float lanes, before the colon, not {place:?}");
+    let mut words: Vec<&str> = place.split_whitespace().collect();
+    let format = words.pop_if(|word| matches!(*word, "f32" | "f64"));
     let (start, room) = match *words.as_slice() {
         ["x"] => (Register::X(0).start(), 512),
         ["y"] => (Register::Y(0).start(), 512),
@@ -280,9 +288,17 @@ fn state_line(registers: &mut [u8], given: &mut [bool], place: &str, digits: &st
         }
         _ => return Err(wrong()),
     };
-    let bytes = hex(digits)?;
+    let bytes = match format {
+        None => hex(digits)?,
+        Some(format) => digits.split_whitespace().map(|word| float(word, format)).collect::<Result<Vec<_>, _>>()?.concat(),
+    };
     if bytes.len() > room {
-        return Err(format!("{place} has {room} bytes, not {}", bytes.len()));
+        let (unit, each) = match format {
+            None => ("bytes", 1),
+            Some("f32") => ("lanes", 4),
+            Some(_) => ("lanes", 8),
+        };
+        return Err(format!("{place} has {} {unit}, not {}", room / each, bytes.len() / each));
     }
     for (at, byte) in (start..).zip(bytes) {
         if std::mem::replace(&mut given[at], true) {
@@ -302,10 +318,31 @@ fn hex(digits: &str) -> Result<Vec<u8>, String> {
     digits.chunks(2).map(|pair| Ok((value(pair[0])? * 16 + value(pair[1])?) as u8)).collect()
 }
 
+/// The bytes of a float lane, f32 or f64: a number in decimal, which is rounded to nearest, `inf`, `-inf`, `nan` (the default NaN), or a
+/// pattern.
+fn float(word: &str, format: &str) -> Result<Vec<u8>, String> {
+    let (bytes, nan, parsed) = match format {
+        "f32" => (4, 0x7fc0_0000, word.parse().ok().map(|float: f32| (float.to_bits().into(), float.is_finite()))),
+        _ => (8, 0x7ff8_0000_0000_0000, word.parse().ok().map(|float: f64| (float.to_bits(), float.is_finite()))),
+    };
+    let pattern = match parsed {
+        _ if word == "nan" => Ok(nan),
+        _ if word.starts_with("0x") || word.starts_with("0b") => {
+            let fits = |pattern: &u64| pattern >> (8 * bytes - 1) <= 1;
+            parse_number(word).ok().filter(fits).ok_or_else(|| format!("{word} is no pattern of {} bits", 8 * bytes))
+        }
+        Some((pattern, true)) => Ok(pattern),
+        Some((pattern, false)) if matches!(word, "inf" | "-inf") => Ok(pattern),
+        Some(_) if word.contains(|letter: char| letter.is_ascii_digit()) => Err(format!("{word} is beyond the largest {format}")),
+        _ => Err(format!("expected an {format} (1.5, -0, 2e-3, inf, -inf, nan, or its pattern, 0x..), not {word:?}")),
+    };
+    pattern.map(|pattern: u64| pattern.to_le_bytes()[..bytes].to_vec())
+}
+
 #[cfg(test)]
 mod tests {
     use super::*;
-    use crate::random::Random;
+    use crate::{Width, random::Random};
 
     fn expected(text: &str) -> (usize, String) {
         let error = assemble(text).unwrap_err();
@@ -348,7 +385,7 @@ mod tests {
 
     #[test]
     fn every_bit_alone_and_every_pair_is_there_and_back() {
-        for (instruction, generation) in [(14, 1), (14, 2), (18, 1), (18, 2), (15, 1), (14, 0)] {
+        for (instruction, generation) in [(11, 1), (11, 2), (14, 1), (14, 2), (18, 1), (18, 2), (19, 1), (19, 2), (15, 1), (14, 0)] {
             for (a, b) in (0..64).flat_map(|a| (0..=a).map(move |b| (a, b))) {
                 let call = Call::new(instruction, generation, 1 << a | 1 << b);
                 assert_eq!(parse_call(&print_call(call)), Ok(call));
@@ -398,7 +435,11 @@ z 0x3f: 00 5	0  # a comment: with a colon
     #[test]
     fn errors_name_the_line_and_what_was_expected() {
         for (text, line, words) in [
-            ("\nmac15 m1", 2, "expected mac16, vecint, raw"),
+            (
+                "\nmac15 m1",
+                2,
+                "expected fms64, mac16, vecint, vecfp, raw, or a line that is no step (x:, y:, z N:, checkpoint), not \"mac15\"",
+            ),
             ("mac16", 1, "expected m1 or m2 after mac16, not \"the end of the line\""),
             ("mac16 m3", 1, "expected m1 or m2 after mac16, not \"m3\""),
             ("mac16 m1 vector\nmac16 m1 vector vector", 2, "vector is given twice"),
@@ -418,6 +459,13 @@ z 0x3f: 00 5	0  # a comment: with a colon
             ("vecint m1 indexed bits=0x800000000000", 1, "has a bit of index_y (bit 47): set it by that name"),
             ("vecint m2 bits=0x100", 1, "bits=0x100 has a bit of y (bits 0..8): set it by that name"),
             ("vecint m2 bits", 1, "expected bits=VALUE"),
+            ("vecfp m1 several", 1, "several (bit 31) is there only on M2"),
+            ("vecfp m1 shift=1", 1, "vecfp has no field \"shift\"; it has broadcast_mode, enable_mode"),
+            ("vecfp m1 enable_value=32", 1, "enable_value (bits 32..36) is 0 to 31, not 32"),
+            ("vecfp m1 bits=0x100000000", 1, "has a bit of enable_value (bits 32..36): set it by that name"),
+            ("vecfp m2 indexed mode=10", 1, "there only without an indexed load"),
+            ("fms64 m1 z_row=64", 1, "z_row (bits 20..25) is 0 to 63, not 64"),
+            ("fms64 m1 z_i32", 1, "fms64 has no field \"z_i32\"; it has skip_x, skip_y"),
             ("raw 18 2", 1, "expected instruction, generation and operand after raw, not 2 words"),
             ("raw 18 2 0x10000000000000000", 1, "expected a number of 64 bits"),
             ("raw 256 2 0", 1, "instruction and generation of a record are 0 to 255, not 256 and 2"),
@@ -429,6 +477,23 @@ z 0x3f: 00 5	0  # a comment: with a colon
             ("x 8: 00", 1, "not \"x 8\""),
             ("z 64: 00", 1, "not \"z 64\""),
             ("x: 00\nx 0: 00", 2, "byte 0 of x 0 is given twice"),
+            ("\nx f32: 1.5 1,5", 2, "expected an f32 (1.5, -0, 2e-3, inf, -inf, nan, or its pattern, 0x..), not \"1,5\""),
+            ("x f64: infinity", 1, "expected an f64 (1.5, -0, 2e-3, inf, -inf, nan, or its pattern, 0x..), not \"infinity\""),
+            ("x f64: -nan", 1, "not \"-nan\""),
+            ("x f32: --1", 1, "not \"--1\""),
+            ("y 1 f32: 3.5e38", 1, "3.5e38 is beyond the largest f32"),
+            ("y 1 f64: -1e309", 1, "-1e309 is beyond the largest f64"),
+            ("z 1 f32: 0x1_0000_0000", 1, "0x1_0000_0000 is no pattern of 32 bits"),
+            ("z 1 f64: 0x1_0000_0000_0000_0000", 1, "0x1_0000_0000_0000_0000 is no pattern of 64 bits"),
+            ("z 1 f64: 0x", 1, "0x is no pattern of 64 bits"),
+            ("z f32: 1", 1, "or z N (0 to 63), and f32 or f64 for float lanes, before the colon, not \"z f32\""),
+            ("x f16: 1", 1, "not \"x f16\""),
+            ("x f32 1: 1", 1, "not \"x f32 1\""),
+            ("f32: 1", 1, "not \"f32\""),
+            ("x f32 f32: 1", 1, "not \"x f32 f32\""),
+            ("x 0: 00000000 00\nx f32: 0 1", 2, "byte 0 of x f32 is given twice"),
+            ("x 0 f64: 1\nx: 00", 2, "byte 0 of x is given twice"),
+            ("mac16 m1\nz 0 f32: 1", 2, "stand before the first step"),
             ("count: 0", 1, "a run starts at count 0: a count stands after checkpoint"),
             ("checkpoint\ncount: 1\ncount: 2", 3, "count is given twice"),
             ("checkpoint\ncount: 0x10000000000000000", 2, "expected a number of 64 bits"),
@@ -446,5 +511,62 @@ z 0x3f: 00 5	0  # a comment: with a colon
         assert_eq!((line, said.as_str()), (2_049, "a trace holds at most 2048 steps"));
         let (_, said) = expected(&format!("z 1: {}", "00".repeat(65)));
         assert_eq!(said, "z 1 has 64 bytes, not 65");
+        for (place, lanes) in [("x f32", 128), ("y f64", 64), ("x 7 f32", 16), ("z 63 f64", 8)] {
+            assert!(assemble(&format!("{place}: {}", "1 ".repeat(lanes))).is_ok());
+            let (_, said) = expected(&format!("{place}: {}", "1 ".repeat(lanes + 1)));
+            assert_eq!(said, format!("{place} has {lanes} lanes, not {}", lanes + 1));
+        }
+    }
+
+    #[test]
+    fn float_lanes_are_read() {
+        let trace = assemble(
+            "x f32: 1.5 -0 nan  # from the first lane on
+x 3 f32: inf -inf 0x7f800001 0xffff_ffff 1e-45 1.4e-45 3.4028235e38 16777217 0.1
+y f64: -2.5e-3 nan 0x7ff0_0000_0000_0001 5e-324
+y 7 f64: -inf inf -0 0 .5 +7 1e-400 0b1
+z 5 f32: 0.30000001
+z 63 f64: 0.30000000000000004
+",
+        )
+        .unwrap();
+        let start = trace.start();
+        let single = |n: usize| (0..10).map(|lane| start.lane(Register::X(n), lane, Width::Bits32)).collect::<Vec<_>>();
+        assert_eq!(single(0)[..4], [0x3fc0_0000, 0x8000_0000, 0x7fc0_0000, 0]);
+        // a tie goes to the even neighbour, and what is under half of the smallest float is 0
+        let expected = [0x7f80_0000, 0xff80_0000, 0x7f80_0001, 0xffff_ffff, 1, 1, 0x7f7f_ffff, 0x4b80_0000, 0x3dcc_cccd, 0];
+        assert_eq!(single(3), expected);
+        let double = |n: usize| (0..8).map(|lane| start.f64_lane(Register::Y(n), lane).to_bits()).collect::<Vec<_>>();
+        assert_eq!(double(0)[..5], [(-2.5e-3f64).to_bits(), 0x7ff8 << 48, 0x7ff0 << 48 | 1, 1, 0]);
+        assert_eq!(double(7), [0xfff0 << 48, 0x7ff0 << 48, 1 << 63, 0, 0x3fe0 << 48, 7f64.to_bits(), 0, 1]);
+        assert_eq!(start.f32_lane(Register::Z(5), 0), 0.3);
+        assert_eq!(start.f64_lane(Register::Z(63), 0), 0.1 + 0.2);
+        // there and back by bytes
+        assert_eq!(assemble(&disassemble(&trace)), Ok(trace.clone()));
+        let text = "x f32: 1\nvecfp m2 mode=11 widths=4\ncheckpoint\ncount: 1\nx 0 f32: 2\nz 0 f32: 1\n";
+        let resumed = assemble(text).unwrap();
+        assert_eq!(resumed.start().f32_lane(Register::X(0), 0), 1.0);
+        assert_eq!(resumed.checkpoint().unwrap().state.f32_lane(Register::X(0), 0), 2.0);
+    }
+
+    #[test]
+    fn float_steps_are_told_by_their_fields() {
+        for (line, call) in [
+            ("vecfp m2 mode=10 widths=4 z_row=3 x=64", Call::new(19, 2, 10 << 47 | 4 << 42 | 3 << 20 | 64 << 10)),
+            ("vecfp m1 mode=4 widths=7 enable_mode=2 enable_value=31", Call::new(19, 1, 4 << 47 | 7 << 42 | 2 << 38 | 31 << 32)),
+            ("vecfp m2 several mode=12 widths=7 broadcast_mode=7 four", Call::new(19, 2, 12 << 47 | 7 << 42 | 7 << 32 | 1 << 31 | 1 << 25)),
+            (
+                "vecfp m1 indexed index_register=3 index_y x_shuffle=2 bits=0x2000000000",
+                Call::new(19, 1, 1 << 53 | 3 << 49 | 1 << 47 | 2 << 29 | 1 << 37),
+            ),
+            ("fms64 m1 vector skip_y z_row=63", Call::new(11, 1, 1 << 63 | 1 << 28 | 63 << 20)),
+            (
+                "fms64 m2 x_enable_mode=1 x_enable_value=8 skip_x skip_z y=511 bits=0x4000000000000000",
+                Call::new(11, 2, 1 << 62 | 1 << 46 | 8 << 41 | 5 << 27 | 511),
+            ),
+        ] {
+            assert_eq!(parse_call(line), Ok(call));
+            assert_eq!(print_call(call), line);
+        }
     }
 }

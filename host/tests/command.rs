@@ -269,15 +269,16 @@ fn an_operand_is_explained() {
         assert!(text.contains(&format!("the lane of Y that is broadcast: {mask}")), "{mask}in\n{text}");
     }
     assert!(said(&["explain", "18 1 0x40000000000000"]).ends_with("answer: no-op 1: bits 54..56 are not all 0\n"));
+    let text = said(&["explain", "vecint", "m1", "x_shuffle=1"]);
     assert!(
-        said(&["explain", "vecint", "m1", "x_shuffle=1"])
-            .ends_with("no ignored bit is set\nanswer: refused 4: shuffles (bits 27..30 outside ALU mode 4) are not covered\n")
+        text.contains("no ignored bit is set\nnot covered here: x_shuffle\nanswer: refused 4: not covered are shuffles (but in "),
+        "{text}"
     );
-    refused(&["explain", "15", "1", "0"], "refused 3: the instruction is not 14 (mac16) or 18 (vecint)");
+    refused(&["explain", "15", "1", "0"], "refused 3: the instruction is not 11 (fms64), 14 (mac16), 18 (vecint) or 19 (vecfp)");
     refused(&["explain", "14", "1"], "expected instruction, generation and operand after explain, not 2 words");
     refused(&["explain"], "expected explain INSTRUCTION GENERATION OPERAND");
     refused(&["explain", "14", "1", "1e3"], "expected a number of 64 bits (12, 0x1f or 0b101), not \"1e3\"");
-    refused(&["explain", "mac17", "m1"], "expected mac16, vecint, raw or three numbers, not \"mac17\"");
+    refused(&["explain", "mac17", "m1"], "expected fms64, mac16, vecint, vecfp, raw or three numbers, not \"mac17\"");
 }
 
 #[test]
@@ -312,8 +313,130 @@ fn an_indexed_load_is_explained() {
     let text = said(&["explain", "vecint m1 indexed index_register=1 widths=3"]);
     assert!(text.contains("X 16, Y 16, Z 32 bits\n") && text.ends_with("answer: done 128 bytes\n"), "{text}");
     assert!(said(&["explain", "vecint m1"]).contains("ignored here: bits 9, 19, 31, 41, 46, 57\n"));
-    assert!(said(&["explain", "vecint m2 indexed y_shuffle=2"]).contains("answer: refused 4: shuffles"));
+    assert!(said(&["explain", "vecint m2 indexed y_shuffle=2"]).contains("not covered here: y_shuffle\nanswer: refused 4: "));
     assert!(said(&["explain", "vecint m2 indexed y_shuffle=2 reserved=4"]).contains("answer: no-op 1: bits 54..56"));
+}
+
+#[test]
+fn a_vecfp_is_explained() {
+    let text = said(&["explain", "vecfp m2 mode=10 widths=4 enable_mode=2 enable_value=3 z_row=3 y=64 bits=0x8000_0020_0400_0000"]);
+    for line in [
+        "vecfp on M2, operand 0x800510a304300040\n",
+        "  bits 47..52  mode             10   ALU mode: x*y\n",
+        "  bits 42..45  widths           4    lane widths: X, Y and Z f32\n",
+        "  bits 32..36  enable_value     3    enable value, or the lane of Y that is broadcast: the first 3 lanes\n",
+        "  bits 20..25  z_row            3    Z row\n",
+        "ignored and set: bits 26, 37, 63\n",
+        "ignored here: bits 9, 19, 26, 37, 41, 46, 57..63\n",
+        "normal operand 0x0005108300300040\n",
+        "answer: done 12 bytes\n",
+    ] {
+        assert!(text.contains(line), "{line}in\n{text}");
+    }
+    for (step, words) in [
+        ("vecfp m1 mode=4 widths=7", "ALU mode: +0 where x <= 0, else y\n"),
+        ("vecfp m1 mode=4 widths=7", "lane widths: X, Y and Z f64\n"),
+        ("vecfp m1 mode=4 widths=7", "ignored here: bits 9, 19, 26, 31, 37, 41, 46, 57..63\n"),
+        ("vecfp m2 several four mode=11 widths=4", "ignored here: bits 9, 19, 24, 26, 35..41, 46, 57..63\n"),
+        ("vecfp m2 several mode=12 widths=4 broadcast_mode=4", "broadcast mode: X reads as 0\n"),
+        ("vecfp m1 mode=12 widths=4", "answer: no-op 3: ALU modes 10 to 12 are not on M1\n"),
+        (
+            "vecfp m2 mode=2 widths=4",
+            "answer: no-op 2: the ALU mode is none of the instruction's (vecint's are 0 to 6 and 10 to 12, vecfp's",
+        ),
+        ("vecfp m2 mode=4 widths=4 reserved=1", "answer: no-op 1: bits 54..56 are not all 0\n"),
+        ("vecfp m2 widths=4", "ALU mode: z + x*y, not covered\n"),
+        ("vecfp m2 widths=4", "not covered here: mode\nanswer: refused 4: "),
+        ("vecfp m2 mode=10 widths=12 enable_value=1", "lane widths: floats of 16 bits, not covered\n"),
+        ("vecfp m2 mode=10 widths=12 enable_value=1", "is broadcast: odd lanes\n"),
+        ("vecfp m2 mode=7 y_shuffle=3 x_shuffle=1", "not covered here: mode, widths, x_shuffle, y_shuffle\n"),
+        ("vecfp m2 mode=4 widths=4 y_shuffle=3", "not covered here: y_shuffle\n"),
+        ("vecfp m1 indexed index_register=1 widths=4", "indexed load (1) or plain load (0): not covered\n"),
+        ("vecfp m1 indexed index_register=1 widths=4", "not covered here: indexed\n"),
+    ] {
+        let text = said(&["explain", step]);
+        assert!(text.contains(words), "{words}in\n{text}");
+    }
+}
+
+#[test]
+fn an_fms64_is_explained() {
+    let text = said(&["explain", "11", "1", "0x4000_5000_13c0_0200"]);
+    for line in [
+        "fms64 on M1, operand 0x4000500013c00200\n",
+        "  bits 41..45  x_enable_value   8    X enable value: no lane\n",
+        "  bit 27       skip_z           0    skip old Z (1) or subtract from it (0): the lane becomes z - x\n",
+        "  bits 20..25  z_row            60   Z row (bits 23..25 ignored)\n",
+        "ignored and set: bits 9, 23..25, 62\n",
+        "ignored here: bits 9, 19, 23..26, 30..31, 39..40, 48..62\n",
+        "normal operand 0x0000500010400000\n",
+        "answer: done 0 bytes\n",
+    ] {
+        assert!(text.contains(line), "{line}in\n{text}");
+    }
+    for (skips, operation) in
+        [("skip_y skip_z", "-x"), ("skip_x", "z - y"), ("skip_x skip_z", "-y"), ("skip_x skip_y", "z"), ("skip_x skip_y skip_z", "-0")]
+    {
+        let text = said(&["explain", &format!("fms64 m2 vector x_enable_mode=1 x_enable_value=7 {skips}")]);
+        assert!(text.contains(&format!("the lane becomes {operation}\n")) && text.ends_with("answer: done 8 bytes\n"), "{text}");
+        assert!(
+            text.contains("X enable value: lane 7 alone\n") && text.contains("ignored here: bits 9, 19, 26, 30..40, 48..62\n"),
+            "{text}"
+        );
+    }
+    let text = said(&["explain", "fms64 m2 vector skip_z"]);
+    assert!(text.contains("the lane becomes -(x*y), not covered\n"), "{text}");
+    assert!(text.contains("not covered here: skip_x and skip_y, both 0\nanswer: refused 4: "), "{text}");
+}
+
+#[test]
+fn floats_are_assembled_run_and_taken_apart() {
+    let room = Room::new("floats");
+    let steps = "vecfp m2 mode=10 widths=4\nfms64 m1 vector skip_y z_row=1 x=64\nvecfp m2 mode=12 widths=7 z_row=2\nfms64 m1\n";
+    let lanes = "x f32: 1.5 -0 inf 0x1\ny f32: 2 1e30 0 0.5\nx 1 f64: 0.25 nan -inf\nz 1 f64: 1 1 -inf 0x7ff0000000000001\n";
+    let text = room.write("floats.txt", format!("{lanes}{steps}"));
+    let trace = room.0.join("floats.amx");
+    said(&["asm", name(&text), "-o", name(&trace)]);
+    // 3, -0, the default NaN, and half of the smallest, a tie that is even as 0
+    let product = format!("00004040{}{}{}", "00000080", "0000c07f", "0".repeat(104));
+    // 0.75, and NaNs: of a NaN, of infinities that cancel out, and of a signalling one
+    let nan = "000000000000f87f";
+    let difference = format!("000000000000e83f{nan}{nan}{nan}{}", "0".repeat(64));
+    // Y as doubles: they are moved to row 2 as they are, since 0 is added
+    let sum = format!("00000040caf24971{}0000003f{}", "0".repeat(8), "0".repeat(96));
+    let expected =
+        format!("step 0 done 64\nstep 1 done 64\nstep 2 done 64\nstep 3 refused 4\nz 0 {product}\nz 1 {difference}\nz 2 {sum}\nsteps 4\n");
+    assert_eq!(said(&["run", name(&trace)]), expected);
+    assert_eq!(said(&["run", name(&text)]), expected);
+    assert_eq!(reference::trace(&fs::read(&trace).unwrap()), expected);
+    let apart = said(&["dis", name(&trace)]);
+    let first = "x 0: 0000c03f000000800000807f01\nx 1: 000000000000d03f000000000000f87f000000000000f0ff\n";
+    assert!(apart.starts_with(first) && apart.ends_with(steps), "{apart}");
+    let again = room.write("again.txt", apart);
+    assert_eq!(said(&["run", name(&again)]), expected);
+}
+
+#[test]
+fn a_float_that_is_none_is_refused_by_its_line() {
+    let room = Room::new("no-floats");
+    let trace = room.0.join("trace");
+    for (text, message) in [
+        ("x f32: 1.5\ny 2 f64: 1.5 one\n", "line 2: expected an f64 (1.5, -0, 2e-3, inf, -inf, nan, or its pattern, 0x..), not \"one\""),
+        ("\n\nz 3 f32: 1e39", "line 3: 1e39 is beyond the largest f32"),
+        ("z 3 f32: 0x7fc000001", "line 1: 0x7fc000001 is no pattern of 32 bits"),
+        ("z 3 f64: 1 2 3 4 5 6 7 8 9", "line 1: z 3 f64 has 8 lanes, not 9"),
+        (
+            "z f64: 1",
+            "line 1: expected x, x N, y, y N (N 0 to 7) or z N (0 to 63), and f32 or f64 for float lanes, before the colon, not \"z f64\"",
+        ),
+        ("vecfp m2 mode=10 widths=4\nvecfp m2 mode=64", "line 2: alu_mode (bits 47..52) is 0 to 63, not 64"),
+        ("fms64 m1 several", "line 1: fms64 has no field \"several\"; it has skip_x, "),
+        ("vecfp m1 broadcast_mode=1", "line 1: broadcast_mode (bits 32..34) is there only with several vectors (bit 31 set, on M2)"),
+    ] {
+        let file = room.write("wrong.txt", text);
+        refused(&["asm", name(&file), "-o", name(&trace)], &format!("wrong.txt, {message}"));
+    }
+    assert_eq!(room.names(), ["wrong.txt"]);
 }
 
 #[test]
@@ -349,6 +472,21 @@ fn lanes_are_shown() {
     assert_eq!(said(&["lanes", "vecint m1 enable_mode=6"]), "done 0 bytes\n");
     assert_eq!(said(&["lanes", "14", "3", "0"]), "refused 2: the generation is not 1 or 2\n");
     assert_eq!(said(&["lanes", "14", "1", "0"]).lines().count(), 33);
+    assert_eq!(
+        said(&["lanes", "vecfp m2 mode=11 widths=4 enable_mode=5 enable_value=3 z_row=9"]),
+        "done 12 bytes, lanes of 32 bits\nz 9   .............###\n"
+    );
+    assert_eq!(said(&["lanes", "vecfp m1 mode=4 widths=7 enable_value=1"]), "done 32 bytes, lanes of 64 bits\nz 0   .#.#.#.#\n");
+    assert_eq!(
+        said(&["lanes", "vecfp m2 several mode=10 widths=7 z_row=3"]),
+        "done 128 bytes, lanes of 64 bits\nz 3   ########\nz 35  ########\n"
+    );
+    assert_eq!(
+        said(&["lanes", "fms64 m1 skip_x z_row=13 x_enable_mode=2 x_enable_value=3 y_enable_mode=1 y_enable_value=2"]),
+        "done 24 bytes, lanes of 64 bits\nz 21  ###.....\n"
+    );
+    assert_eq!(said(&["lanes", "fms64 m1 vector skip_y z_row=13"]), "done 64 bytes, lanes of 64 bits\nz 13  ########\n");
+    assert!(said(&["lanes", "fms64 m1 vector"]).starts_with("refused 4: not covered are shuffles"));
 }
 
 /// The lanes that are shown have as many bytes as the proved step says, whatever the step.
@@ -374,7 +512,7 @@ fn help_says_all_of_it_and_wrong_words_are_refused() {
     }
     // every field by its name
     for operand in [0, 1 << 31, 4 << 47, 1 << 53] {
-        for instruction in [amx::Instruction::Mac16, amx::Instruction::Vecint] {
+        for instruction in amx::Instruction::ALL {
             for field in amx::fields(instruction, amx::Generation::M2, operand) {
                 assert!(help.split_whitespace().any(|word| word.trim_end_matches(';') == field.short), "{}", field.short);
             }

@@ -1,7 +1,7 @@
 //! The scope's numbers at the edges, on the proved unit and on the reference.
 use amx::{
-    Answer, Call, FieldError, Generation::M1, Generation::M2, IndexBits, Mac16, Reason, Refusal, Register, Side, State, Trace, Vecint,
-    Vectors, Width, normal, reference, step,
+    Answer, Call, FieldError, Float, Fms64, Generation::M1, Generation::M2, IndexBits, Mac16, Reason, Refusal, Register, Side, State,
+    Trace, Vecfp, Vecint, Vectors, Width, normal, reference, step,
 };
 use std::error::Error;
 
@@ -422,6 +422,314 @@ fn what_an_indexed_load_ignores_and_what_refuses_it() -> Test {
         assert_eq!(stepped(&start, call).1, Answer::NoOp(Reason::ReservedMode));
         assert_eq!(normal(call), Err(Answer::NoOp(Reason::ReservedMode)));
     }
+    Ok(())
+}
+
+/// A vecfp of one vector on M2.
+fn vecfp(mode: u64, format: Float) -> Result<Call, FieldError> {
+    Ok(Call::vecfp(M2, Vecfp::new(mode, format, Vectors::One)?))
+}
+
+/// A step on lane 0 of X, Y and Z of singles, by their patterns: lane 0 of Z afterwards.
+fn single_0(call: Call, x: u32, y: u32, z: u32) -> u32 {
+    let lanes = [(X, x), (Y, y), (Z, z)].map(|(register, pattern)| (register, 0, Bits32, pattern.into()));
+    stepped(&state(&lanes), call).0.lane(Z, 0, Bits32)
+}
+
+/// The same of doubles.
+fn double_0(call: Call, x: u64, y: u64, z: u64) -> u64 {
+    let mut start = State::new();
+    [(X, x), (Y, y), (Z, z)].into_iter().for_each(|(register, pattern)| start.set_f64(register, 0, f64::from_bits(pattern)));
+    stepped(&start, call).0.f64_lane(Z, 0).to_bits()
+}
+
+const NAN: u32 = 0x7fc0_0000;
+const NAN_64: u64 = 0x7ff8_0000_0000_0000;
+const MINUS_0: u64 = 1 << 63;
+
+#[test]
+fn sums_of_singles_round_once_to_the_nearest_even() -> Test {
+    for (z, x, sum) in [
+        (0x3f80_0000, 0x3380_0000, 0x3f80_0000), // 1 and half of its last place
+        (0x3f80_0001, 0x3380_0000, 0x3f80_0002),
+        (0x3f80_0000, 0x3380_0001, 0x3f80_0001), // and a little more
+        (0x7f7f_ffff, 0x7300_0000, 0x7f80_0000), // the largest and half of its last place
+        (0x7f7f_ffff, 0x72ff_ffff, 0x7f7f_ffff),
+        (0x0000_0001, 0x0000_0001, 0x0000_0002), // subnormals are kept
+        (0x0080_0000, 0x8000_0001, 0x007f_ffff),
+        (0x8000_0000, 0x8000_0000, 0x8000_0000), // zeros
+        (0x8000_0000, 0x0000_0000, 0x0000_0000),
+        (0x3f80_0000, 0xbf80_0000, 0x0000_0000),
+        (0x7f80_0000, 0xff80_0000, NAN), // infinities and NaNs
+        (0x7f80_0000, 0x7f7f_ffff, 0x7f80_0000),
+        (0x7f80_0001, 0x3f80_0000, NAN),
+        (0x3f80_0000, 0xffff_ffff, NAN),
+    ] {
+        assert_eq!(single_0(vecfp(11, Float::Single)?, x, 0x7fc0_0001, z), sum, "{z:#x} + {x:#x}");
+        assert_eq!(single_0(vecfp(12, Float::Single)?, 0x7fc0_0001, x, z), sum, "{z:#x} + {x:#x}");
+    }
+    Ok(())
+}
+
+#[test]
+fn products_round_once_and_old_z_is_not_used() -> Test {
+    for (x, y, product) in [
+        (0x3f80_0001, 0x3f80_0001, 0x3f80_0002),
+        (0x1a00_0000, 0x1a00_0000, 0x0000_0000), // 2^-150 ties between 0 and the smallest
+        (0x1a00_0000, 0x1a00_0001, 0x0000_0001),
+        (0x9a00_0000, 0x1a00_0000, 0x8000_0000),
+        (0x00ff_ffff, 0x3f00_0000, 0x0080_0000), // up to the smallest normal one
+        (0x7f7f_ffff, 0x4000_0000, 0x7f80_0000),
+        (0x0000_0000, 0x7f80_0000, NAN),
+        (0x8000_0000, 0x3f80_0000, 0x8000_0000),
+        (0x7fbf_ffff, 0x0000_0000, NAN),
+    ] {
+        assert_eq!(single_0(vecfp(10, Float::Single)?, x, y, 0x7f80_0001), product, "{x:#x} * {y:#x}");
+    }
+    let tenth = 0.1f64.to_bits();
+    assert_eq!(double_0(vecfp(10, Float::Double)?, tenth, tenth, NAN_64), 0.010_000_000_000_000_002f64.to_bits());
+    assert_eq!(double_0(vecfp(10, Float::Double)?, 0, 0xfff0 << 48, 0), NAN_64);
+    assert_eq!(double_0(vecfp(11, Float::Double)?, tenth, 0, 0.2f64.to_bits()), 0.300_000_000_000_000_04f64.to_bits());
+    assert_eq!(double_0(vecfp(12, Float::Double)?, 0, 0x7ff0 << 48 | 1, 0), NAN_64);
+    Ok(())
+}
+
+#[test]
+fn a_selection_moves_bits() -> Test {
+    for call in [M1, M2] {
+        let call = Call::vecfp(call, Vecfp::new(4, Float::Single, Vectors::One)?);
+        let y = 0xff80_0001;
+        // at most 0: both zeros and all below
+        for x in [0, 0x8000_0000, 0x8000_0001, 0xbf80_0000, 0xff80_0000] {
+            assert_eq!(single_0(call, x, y, 0x1234), 0, "{x:#x}");
+        }
+        // above 0, or not a number: the bits of y, those of a signalling NaN too
+        for x in [1, 0x3f80_0000, 0x7f80_0000, 0x7f80_0001, 0xffc0_0000] {
+            assert_eq!(single_0(call, x, y, 0x1234), y, "{x:#x}");
+            assert_eq!(single_0(call, x, 0x8000_0000, 0x1234), 0x8000_0000, "{x:#x}");
+        }
+    }
+    assert_eq!(double_0(vecfp(4, Float::Double)?, 1, 0xfff0 << 48 | 7, 9), 0xfff0 << 48 | 7);
+    assert_eq!(double_0(vecfp(4, Float::Double)?, MINUS_0, 0xfff0 << 48 | 7, 9), 0);
+    Ok(())
+}
+
+#[test]
+fn a_side_that_reads_as_0_is_plus_0() -> Test {
+    let call = |mode, value| -> Result<Call, FieldError> {
+        Ok(Call::vecfp(M2, Vecfp::new(mode, Float::Single, Vectors::One)?.enable_value(value)?))
+    };
+    // 0 * infinity, and sums that turn -0 into +0 and any NaN into the default one
+    assert_eq!(single_0(call(10, 4)?, 0x3f80_0000, 0x7f80_0000, 0), NAN);
+    assert_eq!(single_0(call(10, 5)?, 0xbf80_0000, 0x7f80_0000, 0), 0x8000_0000);
+    assert_eq!((single_0(call(11, 4)?, 7, 7, 0x8000_0000), single_0(call(12, 5)?, 7, 7, 0x8000_0000)), (0, 0));
+    assert_eq!((single_0(call(11, 4)?, 7, 7, 0xff80_0001), single_0(call(12, 5)?, 7, 7, 0x7f80_0001)), (NAN, NAN));
+    assert_eq!(single_0(call(11, 5)?, 7, 7, 0), 7);
+    // an output that is forced to 0 is +0, whatever it would be
+    for mode in [4, 10, 11, 12] {
+        assert_eq!(single_0(call(mode, 3)?, NAN, NAN, NAN), 0);
+        let several = Vecfp::new(mode, Float::Double, Vectors::Two)?.broadcast_mode(1)?;
+        assert_eq!(double_0(Call::vecfp(M2, several), NAN_64, NAN_64, NAN_64), 0);
+    }
+    Ok(())
+}
+
+#[test]
+fn fms64_subtracts_negates_and_moves() -> Test {
+    let (nan, one, two) = (0xfff0 << 48 | 5, 1f64.to_bits(), 2f64.to_bits());
+    for vector in [true, false] {
+        let call =
+            |skips: u64| Call::fms64(M1, Fms64::new().vector(vector).skip_x(skips & 4 != 0).skip_y(skips & 2 != 0).skip_z(skips & 1 != 0));
+        assert_eq!(double_0(call(2), two, 0, one), (-1f64).to_bits());
+        assert_eq!(double_0(call(4), 0, two, one), (-1f64).to_bits());
+        for (skips, from_x) in [(2, true), (4, false)] {
+            let difference = |side, z| if from_x { double_0(call(skips), side, nan, z) } else { double_0(call(skips), nan, side, z) };
+            assert_eq!([difference(0, 0), difference(0, MINUS_0), difference(MINUS_0, MINUS_0)], [0, MINUS_0, 0]);
+            assert_eq!([difference(nan, one), difference(one, nan), difference(0x7ff0 << 48, 0x7ff0 << 48)], [NAN_64; 3]);
+            assert_eq!(difference(1, 0), MINUS_0 | 1);
+        }
+        // a NaN's sign is turned too, and its payload stays
+        assert_eq!((double_0(call(3), nan, 0, one), double_0(call(5), 0, nan, one)), (nan ^ MINUS_0, nan ^ MINUS_0));
+        assert_eq!((double_0(call(3), 0, nan, one), double_0(call(5), nan, MINUS_0, one)), (MINUS_0, 0));
+        assert_eq!((double_0(call(6), one, two, nan), double_0(call(7), one, two, nan)), (nan, MINUS_0));
+        for skips in 0..8 {
+            let bytes = if vector { 64 } else { 512 };
+            let covered = if skips < 2 { Answer::Refused(Refusal::NotCovered) } else { Answer::Done { bytes } };
+            assert_eq!(stepped(&State::new(), call(skips)).1, covered);
+        }
+    }
+    Ok(())
+}
+
+#[test]
+fn fms64_lanes_go_to_their_places() -> Test {
+    let mut start = State::new();
+    start.set_f64(X, 3, 0.5);
+    start.set_f64(Y, 6, 0.25);
+    let ends = |fields| stepped(&start, Call::fms64(M2, fields)).0;
+    let set = |state: &State| -> Vec<(usize, usize, f64)> {
+        let lanes = (0..64).flat_map(|row| (0..8).map(move |lane| (row, lane)));
+        lanes.map(|(row, lane)| (row, lane, state.f64_lane(Register::Z(row), lane))).filter(|lane| lane.2 != 0.0).collect()
+    };
+    // -x in the rows of every Y lane, -y in every lane of its row; of Z row 29 a matrix takes 5
+    let matrix = Fms64::new().z_row(29)?;
+    assert_eq!(set(&ends(matrix.skip_y(true))), (0..8).map(|j| (8 * j + 5, 3, -0.5)).collect::<Vec<_>>());
+    assert_eq!(set(&ends(matrix.skip_x(true))), (0..8).map(|i| (53, i, -0.25)).collect::<Vec<_>>());
+    assert_eq!(set(&ends(matrix.skip_y(true).vector(true))), [(29, 3, -0.5)]);
+    assert_eq!(set(&ends(matrix.skip_x(true).vector(true))), [(29, 6, -0.25)]);
+    // odd X lanes and the last 2 of Y; a vector has X's alone
+    let masked = matrix.skip_y(true).x_enable_value(1)?.y_enable_mode(3)?.y_enable_value(2)?;
+    assert_eq!(set(&ends(masked)), [(53, 3, -0.5), (61, 3, -0.5)]);
+    assert_eq!(stepped(&start, Call::fms64(M1, masked)).1, Answer::Done { bytes: 4 * 2 * 8 });
+    assert_eq!(stepped(&start, Call::fms64(M1, masked.vector(true))).1, Answer::Done { bytes: 4 * 8 });
+    // there is no lane 8, and the first 8 and more are all
+    for (mode, value, lanes) in [(1, 7, 1), (1, 8, 0), (1, 31, 0), (2, 7, 7), (2, 8, 8), (2, 31, 8), (3, 9, 8), (3, 0, 8), (0, 3, 0)] {
+        let fields = Fms64::new().skip_y(true).vector(true).x_enable_mode(mode)?.x_enable_value(value)?;
+        assert_eq!(stepped(&start, Call::fms64(M2, fields)).1, Answer::Done { bytes: 8 * lanes }, "{mode} {value}");
+    }
+    Ok(())
+}
+
+#[test]
+fn vecfp_lanes_go_to_their_places() -> Test {
+    let mut start = State::new();
+    (0..8).for_each(|n| start.set_f32(Register::X(n), 9, n as f32 + 1.0));
+    let ends = |fields| stepped(&start, Call::vecfp(M2, fields));
+    let rows = |state: &State| -> Vec<(usize, f32)> {
+        (0..64).map(|row| (row, state.f32_lane(Register::Z(row), 9))).filter(|lane| lane.1 != 0.0).collect()
+    };
+    let (after, answer) = ends(Vecfp::new(11, Float::Single, Vectors::Four)?.z_row(5)?.x_offset(384)?);
+    assert_eq!((rows(&after), answer), (vec![(5, 7.0), (21, 8.0), (37, 1.0), (53, 2.0)], Answer::Done { bytes: 256 }));
+    let (after, answer) = ends(Vecfp::new(11, Float::Single, Vectors::Two)?.z_row(31)?.broadcast_mode(2)?);
+    assert_eq!((rows(&after), answer), (vec![(31, 1.0), (63, 1.0)], Answer::Done { bytes: 128 }));
+    // lane 0 of X for all lanes
+    start.set_f64(X, 0, 1.5);
+    let (after, _) = stepped(&start, Call::vecfp(M2, Vecfp::new(11, Float::Double, Vectors::Two)?.broadcast_mode(6)?));
+    assert!((0..8).all(|lane| after.f64_lane(Register::Z(32), lane) == 1.5));
+    // a lane of Y for all lanes, modulo the lanes of its width; M1 does one vector
+    start.set_f64(Y, 1, 2.5);
+    for (value, sum) in [(1, 2.5), (9, 2.5), (17, 2.5), (0, 0.0)] {
+        let call = Call::vecfp(M2, Vecfp::new(12, Float::Double, Vectors::One)?.enable_mode(1)?.enable_value(value)?);
+        assert_eq!(stepped(&start, call).0.f64_lane(Z, 5), sum, "{value}");
+    }
+    let several = Vecfp::new(4, Float::Single, Vectors::Four)?;
+    assert_eq!(stepped(&start, Call::vecfp(M1, several)).1, Answer::Done { bytes: 64 });
+    Ok(())
+}
+
+#[test]
+fn vecfp_masks_have_their_own_lane_count() -> Test {
+    for (format, bytes, lanes) in [(Float::Single, 4, 16), (Float::Double, 8, 8)] {
+        let fields = Vecfp::new(4, format, Vectors::One)?;
+        for (mode, value, enabled) in [
+            (0, 0, lanes),
+            (0, 1, lanes / 2),
+            (0, 2, lanes / 2),
+            (0, 3, lanes),
+            (0, 6, 0),
+            (1, 31, lanes),
+            (2, 0, lanes),
+            (2, 5, 5),
+            (2, 16, lanes),
+            (3, 31, lanes),
+            (4, 0, 0),
+            (4, 7, 7),
+            (5, 0, 0),
+            (5, lanes - 1, lanes - 1),
+            (5, 30, lanes),
+            (6, 1, 0),
+            (7, 0, 0),
+        ] {
+            let call = Call::vecfp(M1, fields.enable_mode(mode)?.enable_value(value)?);
+            let done = stepped(&State::new(), call).1;
+            assert_eq!(done, Answer::Done { bytes: bytes * enabled }, "{mode} {value}");
+            // bit 37 is none of the value's
+            assert_eq!(stepped(&State::new(), Call { operand: call.operand | 1 << 37, ..call }).1, done);
+        }
+    }
+    Ok(())
+}
+
+#[test]
+fn what_vecfp_answers_where_it_is_not_done() {
+    let start = State::from_registers(std::array::from_fn(|at| (at * 37 % 251) as u8));
+    for generation in [1, 2] {
+        for (mode, widths) in (0..64).flat_map(|mode| (0..16).map(move |widths| (mode, widths))) {
+            let call = Call::new(19, generation, mode << 47 | widths << 42);
+            let covered = matches!(widths, 4 | 7) && matches!(mode, 4 | 10..=12);
+            let expected = match mode {
+                0 | 1 | 5 | 7 => Answer::Refused(Refusal::NotCovered),
+                10..=12 if generation == 1 => Answer::NoOp(Reason::LaterMode),
+                4 | 10..=12 if covered => Answer::Done { bytes: 64 },
+                4 | 10..=12 => Answer::Refused(Refusal::NotCovered),
+                _ => Answer::NoOp(Reason::ReservedMode),
+            };
+            let (after, answer) = stepped(&start, call);
+            assert_eq!(answer, expected, "{mode} {widths}");
+            assert_eq!(normal(call), if answer.is_done() { Ok(call.operand) } else { Err(answer) });
+            match answer {
+                Answer::Refused(_) => assert!(after == start),
+                Answer::NoOp(_) => assert!(after == counted(&start)),
+                Answer::Done { .. } => assert_eq!(after.count(), 1),
+            }
+            // a shuffle, in mode 4 too, and an indexed load, whatever its fields; the reserved bits come before all
+            for (bits, answer) in (27..31).map(|bit| (1 << bit, expected)).chain([(1 << 53, Answer::Refused(Refusal::NotCovered))]) {
+                let shuffled = if answer.is_done() { Answer::Refused(Refusal::NotCovered) } else { answer };
+                assert_eq!(stepped(&start, Call { operand: call.operand | bits, ..call }).1, shuffled, "{mode} {widths} {bits:#x}");
+            }
+            for bit in 54..57 {
+                let reserved = Call { operand: call.operand | 1 << bit | 1 << 27, ..call };
+                assert_eq!(stepped(&start, reserved), (counted(&start), Answer::NoOp(Reason::ReservedBits)));
+            }
+        }
+    }
+}
+
+#[test]
+fn what_float_steps_ignore() {
+    /// The bits of some ranges.
+    fn ranges(ranges: &[(u32, u32)]) -> u64 {
+        ranges.iter().map(|&(low, high)| (2u64 << high).wrapping_sub(1 << low)).sum()
+    }
+    let vecfp = [(57, 63), (46, 46), (41, 41), (26, 26), (19, 19), (9, 9)];
+    let fms64 = [(48, 62), (39, 40), (30, 31), (26, 26), (19, 19), (9, 9)];
+    let several: u64 = 11 << 47 | 4 << 42 | 1 << 31;
+    for (instruction, generation, operand, ignored) in [
+        (19, 1, 4 << 47 | 4 << 42, ranges(&vecfp) | 1 << 37 | 1 << 31),
+        (19, 2, 11 << 47 | 7 << 42, ranges(&vecfp) | 1 << 37),
+        (19, 2, several, ranges(&vecfp) | ranges(&[(35, 40)])),
+        (19, 2, several | 1 << 25, ranges(&vecfp) | ranges(&[(35, 40), (24, 24)])),
+        (11, 1, 1 << 63 | 1 << 28, ranges(&fms64) | ranges(&[(32, 38)])),
+        (11, 2, 1 << 29, ranges(&fms64) | ranges(&[(23, 25)])),
+        (11, 2, 3 << 28, ranges(&fms64) | ranges(&[(23, 25)])),
+    ] {
+        // all that decide nothing else set beside them: offsets of a side that is skipped are no ignored bits
+        let places = 0x1f << 20 & !ignored | 0x1ff << 10 | 0x1ff;
+        let call = Call::new(instruction, generation, operand | places | ignored);
+        let start = State::from_registers(std::array::from_fn(|at| (at * 37 % 251) as u8));
+        assert_eq!(normal(call), Ok(operand | places), "{instruction} {generation} {operand:#x}");
+        assert_eq!(reference::normal(instruction, generation, call.operand), Ok(operand | places));
+        assert_eq!(stepped(&start, call), stepped(&start, Call { operand: operand | places, ..call }));
+        assert!(!reference::only_adds(instruction, generation, operand));
+    }
+}
+
+#[test]
+fn a_trace_of_floats() -> Test {
+    let mut start = State::new();
+    start.set_f32(X, 0, 1.5);
+    start.set_f32(Y, 0, 0.25);
+    let mut trace = Trace::new(start);
+    let product = Vecfp::new(10, Float::Single, Vectors::One)?.enable_mode(2)?.enable_value(1)?;
+    trace.push(Call::vecfp(M2, product).try_into()?)?;
+    trace.push(Call::vecfp(M1, product).try_into()?)?;
+    trace.push(Call::fms64(M1, Fms64::new().vector(true).z_row(1)?).try_into()?)?;
+    trace.push(Call::fms64(M1, Fms64::new().vector(true).z_row(1)?.skip_x(true).skip_y(true).skip_z(true)).try_into()?)?;
+    // 0.375 is 3ec00000, and -0 is written to row 1
+    let rows = format!("z 0 0000c03e{}\nz 1 {}\n", "0".repeat(120), "0000000000000080".repeat(8));
+    let text = format!("step 0 done 4\nstep 1 no-op 3\nstep 2 refused 4\nstep 3 done 64\n{rows}steps 4\n");
+    assert_eq!(trace.text(), text);
+    assert_eq!(reference::trace(&trace.to_bytes()), text);
     Ok(())
 }
 

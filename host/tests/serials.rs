@@ -1,16 +1,29 @@
 //! The count of steps taken and the serials, on the proved unit and on the reference: the order of the table, what is counted, and retries.
 use amx::{
-    Answer, Call, Generation::M1, Mac16, REGISTER_BYTES, Reason, Refusal, Register, STATE_LENGTH, State, Width, normal, reference, run,
-    step, step_bytes,
+    Answer, Call, Float, Generation::M1, Generation::M2, Mac16, REGISTER_BYTES, Reason, Refusal, Register, STATE_LENGTH, State, Vecfp,
+    Vectors, Width, normal, reference, run, step, step_bytes,
 };
 
 const DONE: Call = Call { instruction: 14, generation: 1, operand: 1 << 63 };
-const NO_OP: [(Call, Reason); 3] = [
+/// Floats: x <= 0 ? +0 : y and z - x.
+const FLOATS: [Call; 2] = [
+    Call { instruction: 19, generation: 1, operand: 4 << 47 | 4 << 42 },
+    Call { instruction: 11, generation: 1, operand: 1 << 63 | 1 << 28 },
+];
+const NO_OP: [(Call, Reason); 6] = [
     (Call { instruction: 18, generation: 1, operand: 1 << 54 }, Reason::ReservedBits),
     (Call { instruction: 18, generation: 1, operand: 7 << 47 }, Reason::ReservedMode),
     (Call { instruction: 18, generation: 1, operand: 10 << 47 }, Reason::LaterMode),
+    (Call { instruction: 19, generation: 1, operand: 1 << 54 }, Reason::ReservedBits),
+    (Call { instruction: 19, generation: 2, operand: 2 << 47 }, Reason::ReservedMode),
+    (Call { instruction: 19, generation: 1, operand: 10 << 47 }, Reason::LaterMode),
 ];
-const SHUFFLE: Call = Call { instruction: 18, generation: 1, operand: 1 << 27 };
+/// A shuffle, a sum of a product, and a difference of one.
+const NOT_COVERED: [Call; 3] = [
+    Call { instruction: 18, generation: 1, operand: 1 << 27 },
+    Call { instruction: 19, generation: 1, operand: 4 << 42 },
+    Call { instruction: 11, generation: 1, operand: 1 << 63 },
+];
 const GENERATION: Call = Call { instruction: 15, generation: 3, operand: 0 };
 const INSTRUCTION: Call = Call { instruction: 15, generation: 1, operand: 0 };
 
@@ -44,7 +57,7 @@ fn refused(count: u64, call: Call, serial: u64) -> Refusal {
 }
 
 fn calls() -> impl Iterator<Item = Call> {
-    [DONE, SHUFFLE].into_iter().chain(NO_OP.map(|(call, _)| call))
+    FLOATS.into_iter().chain([DONE]).chain(NOT_COVERED).chain(NO_OP.map(|(call, _)| call))
 }
 
 #[test]
@@ -85,16 +98,18 @@ fn a_state_of_another_length_has_no_count() {
 fn done_and_no_op_raise_the_count_and_a_refusal_does_not() {
     // one past a byte's end, and one past all but the last
     for count in [0, 255, (1 << 56) - 1, LAST - 2] {
-        let mut after = state(count);
-        assert_eq!(sent(&mut after, DONE, count), Answer::Done { bytes: 64 });
-        assert_eq!(after.count(), count + 1);
-        assert_ne!(after.registers(), state(count).registers());
+        for call in FLOATS.into_iter().chain([DONE]) {
+            let mut after = state(count);
+            assert_eq!(sent(&mut after, call, count), Answer::Done { bytes: 64 });
+            assert_eq!(after.count(), count + 1);
+            assert_ne!(after.registers(), state(count).registers());
+        }
         for (call, reason) in NO_OP {
             let mut after = state(count);
             assert_eq!(sent(&mut after, call, count), Answer::NoOp(reason));
             assert_eq!(after, state(count + 1));
         }
-        assert_eq!(refused(count, SHUFFLE, count), Refusal::NotCovered);
+        NOT_COVERED.into_iter().for_each(|call| assert_eq!(refused(count, call, count), Refusal::NotCovered));
         assert_eq!(refused(count, GENERATION, count), Refusal::Generation);
         assert_eq!(refused(count, INSTRUCTION, count), Refusal::Instruction);
     }
@@ -136,9 +151,21 @@ fn a_call_that_is_sent_again_adds_once() {
 }
 
 #[test]
+fn a_float_sum_that_is_sent_again_adds_once() {
+    let sum = Call::vecfp(M2, Vecfp::new(11, Float::Double, Vectors::One).unwrap());
+    let mut state = State::new();
+    state.set_f64(Register::X(0), 3, 0.1);
+    for (serial, total) in [(0, 0.1), (1, 0.2), (2, 0.300_000_000_000_000_04)] {
+        assert_eq!(sent(&mut state, sum, serial), Answer::Done { bytes: 64 });
+        assert_eq!(sent(&mut state, sum, serial), Answer::Refused(Refusal::Serial));
+        assert_eq!(state.f64_lane(Register::Z(0), 3), total);
+    }
+}
+
+#[test]
 fn a_refused_step_does_not_use_its_serial_up() {
     let mut state = state(9);
-    for call in [SHUFFLE, GENERATION, INSTRUCTION] {
+    for call in NOT_COVERED.into_iter().chain([GENERATION, INSTRUCTION]) {
         assert!(matches!(sent(&mut state, call, 9), Answer::Refused(_)));
     }
     assert_eq!(sent(&mut state, DONE, 9), Answer::Done { bytes: 64 });

@@ -1,5 +1,6 @@
 //! The proved unit's speed against the reference's, in one run. Ratios are of medians of interleaved runs; below 1 the proved unit is faster.
-use amx::{Answer, Call, FieldError, Generation::M2, IndexBits, Mac16, Side, State, Vecint, Vectors, random::Random, reference, step};
+use amx::{Answer, Call, FieldError, Float, Fms64, Generation::M2, IndexBits, Mac16, Register, Side, State, Vecfp, Vecint, Vectors};
+use amx::{random::Random, reference, step};
 use std::{hint::black_box, time::Instant};
 
 const RUNS: usize = 31;
@@ -58,9 +59,10 @@ fn measure(name: &str, start: &State, calls: &[Call]) {
     println!("{name:<36} {:>7.0} ns a step   reference {:>7.0}   ratio {:.3}", proved * each, second * each, proved / second);
 }
 
-/// The step of a form at the X offsets of seven kernels, over and over.
+/// The step of a form at the X offsets of seven kernels, over and over. Floats lie in whole lanes.
 fn form(name: &str, start: &State, call: Call, count: usize) {
-    let calls: Vec<Call> = (0..count).map(|n| Call { operand: call.operand | (n as u64 % 7 * 3) << 10, ..call }).collect();
+    let apart = if matches!(call.instruction, 11 | 19) { 8 } else { 3 };
+    let calls: Vec<Call> = (0..count).map(|n| Call { operand: call.operand | (n as u64 % 7 * apart) << 10, ..call }).collect();
     measure(name, start, &calls);
 }
 
@@ -84,16 +86,41 @@ fn main() -> Result<(), FieldError> {
     form("vecint, mode 0, four vectors", &start, vecint(0, 0, Vectors::Four)?, 2_000);
     form("vecint, mode 4, widths 3 (32 to 16)", &start, vecint(4, 3, Vectors::One)?, 4_000);
     form("vecint, mode 5", &start, vecint(5, 0, Vectors::One)?, 4_000);
-    let mixed: Vec<Call> = (0..4_000).map(|_| random.known_call()).collect();
-    measure("both, 4,000 random calls", &start, &mixed);
+    let mixed: Vec<Call> = (0..4_000).map(|_| random.integer_call()).collect();
+    measure("mac16, vecint, 4,000 random calls", &start, &mixed);
     let works = |&call: &Call| matches!(step(&mut State::new(), call, 0), Answer::Done { bytes: 1.. });
-    let records: Vec<Call> = std::iter::repeat_with(|| random.known_call()).filter(works).take(2_048).collect();
+    let records: Vec<Call> = std::iter::repeat_with(|| random.integer_call()).filter(works).take(2_048).collect();
     measure("a whole trace, 2,048 done steps", &start, &records);
     let indexed = Vecint::indexed(Side::X, IndexBits::Four, 3, Vectors::One)?.shift(3)?.x_signed(true)?.y_signed(true)?;
     form("vecint, indexed X, widths 0", &start, Call::vecint(M2, indexed), 4_000);
     form("vecint, indexed X, widths 10", &start, Call::vecint(M2, indexed.lane_widths(10)?), 4_000);
     let is_indexed = |call: &Call| call.instruction == 18 && call.operand >> 53 & 1 == 1;
-    let loads = std::iter::repeat_with(|| random.known_call()).filter(|call| is_indexed(call) && works(call));
+    let loads = std::iter::repeat_with(|| random.integer_call()).filter(|call| is_indexed(call) && works(call));
     measure("vecint, 2,048 done indexed steps", &start, &loads.take(2_048).collect::<Vec<_>>());
+    floats(&mut random)
+}
+
+/// vecfp of both formats, fms64 as a vector and a matrix, and any of them that are done.
+fn floats(random: &mut Random) -> Result<(), FieldError> {
+    // numbers from 1 to 2: a processor may be slow with subnormal ones
+    let (mut singles, mut doubles) = (State::new(), State::new());
+    for (register, lane) in Register::all().flat_map(|register| (0..16).map(move |lane| (register, lane))) {
+        let number = 1.0 + random.below(1 << 20) as f32 / (1 << 20) as f32;
+        singles.set_f32(register, lane, number);
+        doubles.set_f64(register, lane / 2, number.into());
+    }
+    for (mode, operation) in [(4, "x <= 0 ? 0 : y"), (10, "x*y"), (11, "z + x"), (12, "z + y")] {
+        for (name, format, start) in [("f32", Float::Single, &singles), ("f64", Float::Double, &doubles)] {
+            let call = Call::vecfp(M2, Vecfp::new(mode, format, Vectors::One)?);
+            form(&format!("vecfp {name}, mode {mode} ({operation})"), start, call, 4_000);
+        }
+    }
+    form("vecfp f32, mode 11, four vectors", &singles, Call::vecfp(M2, Vecfp::new(11, Float::Single, Vectors::Four)?), 2_000);
+    for (name, fields) in [("z - x", Fms64::new().skip_y(true)), ("-y", Fms64::new().skip_x(true).skip_z(true))] {
+        form(&format!("fms64, vector, {name}"), &doubles, Call::fms64(M2, fields.vector(true)), 4_000);
+        form(&format!("fms64, matrix, {name}"), &doubles, Call::fms64(M2, fields), 1_000);
+    }
+    let calls: Vec<Call> = (0..4_000).map(|_| random.float_call()).collect();
+    measure("vecfp, fms64, 4,000 random calls", &doubles, &calls);
     Ok(())
 }

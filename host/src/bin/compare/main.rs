@@ -2,6 +2,7 @@
 mod case;
 mod counts;
 mod cuts;
+mod floats;
 mod sent;
 mod steps;
 mod swaps;
@@ -15,7 +16,7 @@ use std::{path::PathBuf, process::ExitCode, time::Instant};
 const HELP: &str = "\
 compare [OPTIONS]: the proved unit against the reference
   --seed N          what is drawn, the same for the same number (1)
-  --steps N         random steps (400000); sequences, normal operands, swaps and traces follow it
+  --steps N         random steps (400000); floats, sequences, normal operands, swaps and traces follow it
   --trace PROGRAM   the trace program (../target/bin/amx_trace)
   --need-trace      it is an error where the trace program is not there
 A difference ends it with status 1, and with the smallest case found; so does an answer or a kind of
@@ -63,24 +64,38 @@ fn compare(options: &Options) -> Result<(), String> {
     let mut tally = Tally::default();
     let drawn = steps::random(&mut random(1), steps, &mut tally)?;
     println!("{drawn} random steps: same bytes, same answers ({})", tally.text());
+    let operations = floats::rounding(&floats::IN_WHOLE_NUMBERS, &mut random(11), steps)?;
+    println!("{operations} sums, differences and products: the reference's, in whole numbers, are the processor's");
+    let mut tally = Tally::default();
+    let special = floats::special(case::proved, &mut tally)?;
+    println!(
+        "{special} steps, every pair of special floats through every mode and form: same bytes, same answers ({} kinds of results)",
+        tally.names()
+    );
+    let (floats, [vecfp, fms64]) = floats::random(&mut random(12), steps / 2)?;
+    println!("{floats} random steps on floats: same bytes, same answers (vecfp: {}; fms64: {})", vecfp.text(), fms64.text());
     let lists = steps / 400;
     let (sequences, again) = steps::sequences(&mut random(2), lists)?;
     println!(
         "{sequences} steps in {lists} sequences: same bytes at their ends, same answers; \
          the {again} sent with a serial that was used up change no byte"
     );
-    let normals = steps::normals(&mut random(3), steps / 4)?;
-    println!("{normals} normal operands: the reference's, same effect and answer with any serial, normal themselves");
+    let normals = steps / 4;
+    let tally = steps::normals(&mut random(3), normals)?;
+    println!("{normals} normal operands: the reference's, same effect and answer with any serial, normal themselves ({})", tally.text());
     let swaps = swaps::chains(&mut random(4), steps / 40)?;
     println!(
         "{} chains of {} allowed swaps ({} apart, {} adding to shared bytes): same bytes, same answers; \
-         of {} pairs not allowed by their lanes {} differ when swapped, of {} not allowed by the count {}",
+         of {} pairs not allowed by their lanes {} differ when swapped, of {} among them that add floats {}, \
+         and of {} not allowed by the count {}",
         swaps.chains,
         swaps.apart + swaps.adding,
         swaps.apart,
         swaps.adding,
         swaps.not_allowed,
         swaps.not_allowed_differ,
+        swaps.floats,
+        swaps.floats_differ,
         swaps.no_room,
         swaps.no_room_differ
     );

@@ -1,11 +1,12 @@
 //! Steps one by one and in sequences, and normal operands.
 use crate::case::{Case, Step, agree, difference, proved, second};
+use crate::floats::draw_floats;
 use crate::sent::{Sent, Serial, count_of, draw_count, draw_state, set_count};
 use crate::tally::Tally;
-use amx::{Answer, Call, REGISTER_BYTES, Refusal, STATE_LENGTH, normal, random::Random, random::put, reference};
+use amx::{Answer, Call, Instruction, REGISTER_BYTES, Refusal, STATE_LENGTH, normal, random::Random, random::put, reference};
 
 /// Every answer, done with no lane apart. Sweeps of operands, on states of the right length, do not meet the first three.
-const ANSWERS: [&str; 11] =
+pub const ANSWERS: [&str; 11] =
     ["refused 1", "refused 2", "refused 3", "refused 4", "refused 8", "refused 9", "no-op 1", "no-op 2", "no-op 3", "done", "done 0"];
 
 /// Two states that go through the same steps, one by each program.
@@ -32,7 +33,7 @@ impl Pair {
     }
 }
 
-const PROGRAMS: &str = "the two programs";
+pub const PROGRAMS: &str = "the two programs";
 
 /// One call on a state of its own.
 fn one(step: Step, state: Vec<u8>, sent: Sent, tally: &mut Tally) -> Result<(), String> {
@@ -41,15 +42,18 @@ fn one(step: Step, state: Vec<u8>, sent: Sent, tally: &mut Tally) -> Result<(), 
     Ok(())
 }
 
+/// Draws a state of some length with a count.
+type Draw = fn(&mut Random, usize, u64) -> Vec<u8>;
+
 /// Every call of a list with the serial due, on states that are drawn anew now and then. One in four is sent to a copy as well, whose count is
 /// drawn, mostly with a wrong serial: what a refused serial hides is compared all the same. The number of steps.
-fn each(random: &mut Random, calls: impl Iterator<Item = Call>, tally: &mut Tally) -> Result<u64, String> {
+pub fn each(random: &mut Random, calls: impl Iterator<Item = Call>, draw: Draw, tally: &mut Tally) -> Result<u64, String> {
     let mut pair = Pair::new(Vec::new());
     let (mut before, mut aside, mut count) = (Vec::new(), 0, 0);
     for call in calls {
         if count % 48 == 0 {
             let taken = if random.once_in(2) { 0 } else { random.bits() };
-            pair = Pair::new(draw_state(random, STATE_LENGTH, taken));
+            pair = Pair::new(draw(random, STATE_LENGTH, taken));
         }
         if random.once_in(4) {
             let mut state = pair.proved.clone();
@@ -72,16 +76,36 @@ pub fn table(step: Step, random: &mut Random, tally: &mut Tally) -> Result<u64, 
     const SERIALS: [Serial; 6] =
         [Serial::Due, Serial::Past(1), Serial::Past(u64::MAX), Serial::Past(1 << 32), Serial::Given(0), Serial::Given(u64::MAX)];
     // of vecint: done, done with no lane, no-op 1, 2 and 3, refused 4, and no-ops that would be refused 4 next
-    const OPERANDS: [u64; 9] =
+    const VECINT: [u64; 9] =
         [1 << 63, 6 << 38, 1 << 54, 7 << 47, 10 << 47, 1 << 27, 1 << 54 | 1 << 27, 7 << 47 | 1 << 27, 10 << 47 | 1 << 27];
+    // of vecfp: done, done with no lane, no-op 3 or done, refused 4 for the widths, the mode, a shuffle and an indexed load, and no-ops that
+    // would be refused 4 next
+    const SELECT: u64 = 4 << 47 | 4 << 42;
+    const VECFP: [u64; 12] = [
+        SELECT,
+        SELECT | 6 << 38,
+        10 << 47 | 7 << 42,
+        4 << 47 | 3 << 42,
+        5 << 47 | 4 << 42,
+        SELECT | 1 << 27,
+        SELECT | 1 << 53,
+        SELECT | 1 << 54,
+        SELECT | 1 << 53 | 1 << 54,
+        2 << 47 | 4 << 42,
+        8 << 47 | 1 << 30,
+        12 << 47 | 4 << 42 | 1 << 29,
+    ];
+    // of fms64: done, done with no lane; the others above are refused 4 but for the shuffles, which are its skips
+    const FMS64: [u64; 4] = [1 << 63 | 1 << 28, 1 << 29, 3 << 27, 1 << 46 | 8 << 41 | 1 << 28];
     let mut count = 0;
     for length in LENGTHS {
         let bytes = random.bytes(length);
         for taken in if length == STATE_LENGTH { &COUNTS[..] } else { &COUNTS[..1] } {
             let mut state = bytes.clone();
             set_count(&mut state, *taken);
-            for (instruction, generation) in pairs([13, 14, 18, 1 << 32 | 14], 4) {
-                for (operand, serial) in OPERANDS.into_iter().flat_map(|operand| SERIALS.map(|serial| (operand, serial))) {
+            for (instruction, generation) in pairs([13, 14, 18, 1 << 32 | 14, 10, 11, 12, 19, 20, 1 << 8 | 19], 4) {
+                let operands = VECINT.into_iter().chain(VECFP).chain(FMS64);
+                for (operand, serial) in operands.flat_map(|operand| SERIALS.map(|serial| (operand, serial))) {
                     let call = Call::new(instruction, generation, operand);
                     one(step, state.clone(), Sent { call, serial }, tally)?;
                     count += 1;
@@ -93,13 +117,17 @@ pub fn table(step: Step, random: &mut Random, tally: &mut Tally) -> Result<u64, 
     Ok(count)
 }
 
-/// The fields of both instructions swept, alone and in the pairs and triples that matter to each other.
+/// The fields of each instruction swept, alone and in the pairs and triples that matter to each other.
 pub fn swept(random: &mut Random, tally: &mut Tally) -> Result<u64, String> {
-    let mac16 = sweep_mac16(random);
-    let vecint = sweep_vecint(random);
-    let count = each(random, mac16.into_iter().chain(vecint), tally)?;
+    let (mac16, vecint) = (sweep_mac16(random), sweep_vecint(random));
+    let integers = each(random, mac16.into_iter().chain(vecint), draw_state, tally)?;
     tally.needs(&ANSWERS[3..], "swept steps")?;
-    Ok(count)
+    let (vecfp, fms64) = (sweep_vecfp(random), sweep_fms64(random));
+    let mut of_floats = Tally::default();
+    let floats = each(random, vecfp.into_iter().chain(fms64), draw_floats, &mut of_floats)?;
+    of_floats.needs(&ANSWERS[3..], "swept steps of floats")?;
+    tally.join(of_floats);
+    Ok(integers + floats)
 }
 
 /// Z row and the offsets, and nothing that is ignored.
@@ -135,6 +163,55 @@ fn sweep_mac16(random: &mut Random) -> Vec<Call> {
         operands.extend((0..64).map(|bit| form ^ 1 << bit));
     }
     on_both(14, operands)
+}
+
+fn sweep_fms64(random: &mut Random) -> Vec<Call> {
+    let mut operands = Vec::new();
+    for form in [1 << 63, 0] {
+        // what is done, and any of what is ignored
+        let skips = |random: &mut Random| form | random.pick(&[2, 3, 4, 5, 6, 7]) << 27 | random.bits() & (0x7fff << 48 | PLACES);
+        for (x, y) in pairs(0..128, 128).filter(|(_, y)| form == 0 || y % 16 == 0) {
+            operands.push(put(put(skips(random), 41, 47, x), 32, 38, y));
+        }
+        for (skipped, row) in pairs(0..8, 64) {
+            operands.push(form | skipped << 27 | row << 20 | random.bits() & PLACES & !(63 << 20));
+        }
+        for (offset, row) in pairs((0..512).step_by(7), 8) {
+            operands.push(put(put(put(skips(random), 10, 18, offset), 0, 8, 511 - offset), 20, 25, row));
+        }
+        operands.extend(pairs(2..8, 64).map(|(skipped, bit)| (form | skipped << 27) ^ 1 << bit));
+    }
+    on_both(11, operands)
+}
+
+fn sweep_vecfp(random: &mut Random) -> Vec<Call> {
+    const MODES: [u64; 4] = [4, 10, 11, 12];
+    // places and all that is ignored, and no shuffle
+    let other = |random: &mut Random| random.bits() & (0x7f << 57 | 1 << 46 | 1 << 41 | 0x07ff_ffff);
+    let mut operands = Vec::new();
+    // all that bits 47..53 can say, at every width
+    for (kind, widths) in pairs(0..128, 16) {
+        let form = kind << 47 | widths << 42;
+        operands.push(form | other(random));
+        operands.extend(pairs(0..2, 8).map(|(four, broadcast)| put(form | other(random), 25, 25, four) | 1 << 31 | broadcast << 32));
+    }
+    for (mode, widths) in MODES.into_iter().flat_map(|mode| [4, 7].map(|widths| (mode, widths))) {
+        let form = mode << 47 | widths << 42;
+        // enable modes and values with the bit above, and broadcast modes with what is ignored then
+        for (several, value) in pairs(0..3, 512) {
+            operands.push(put(form | other(random), 25, 25, several / 2) | several.min(1) << 31 | value << 32);
+        }
+        operands.extend(pairs(0..2, 64).map(|(several, row)| put(form | other(random), 20, 25, row) | several << 31));
+        // both sides round the end of the ring, with one vector, two and four
+        for (offset, vectors) in pairs(448..512, 3) {
+            let placed = put(put(form | other(random), 10, 18, offset), 0, 8, 959 - offset);
+            operands.push(put(placed, 25, 25, vectors / 2) | vectors.min(1) << 31);
+        }
+        // shuffles and the reserved bits, and every bit turned
+        operands.extend((0..128).map(|bits| form | (bits & 15) << 27 | (bits >> 4) << 54));
+        operands.extend((0..64).flat_map(|bit| [form ^ 1 << bit, form ^ 1 << 31 ^ 1 << bit]));
+    }
+    on_both(19, operands)
 }
 
 fn sweep_vecint(random: &mut Random) -> Vec<Call> {
@@ -186,7 +263,7 @@ fn sweep_vecint(random: &mut Random) -> Vec<Call> {
 /// Random calls, unknown instructions and generations, wrong serials and wrong lengths among them.
 pub fn random(random: &mut Random, steps: u64, tally: &mut Tally) -> Result<u64, String> {
     let mut calls = Random::new(random.bits());
-    let count = each(random, (0..steps).map(|_| calls.call()), tally)?;
+    let count = each(random, (0..steps).map(|_| calls.call()), draw_state, tally)?;
     let wrong_lengths = steps / 40;
     for _ in 0..wrong_lengths {
         let length = match random.below(4) {
@@ -254,21 +331,31 @@ fn sent_again(case: &Case, step: Step) -> Result<u64, String> {
     Ok(again)
 }
 
-/// Normal operands: the reference's, of the same answer and effect on any state with any serial, and normal themselves.
-pub fn normals(random: &mut Random, count: u64) -> Result<u64, String> {
+/// Normal operands: the reference's, of the same answer and effect on any state with any serial, and normal themselves. How many each
+/// instruction had.
+pub fn normals(random: &mut Random, count: u64) -> Result<Tally, String> {
+    let mut tally = Tally::default();
     for n in 0..count {
         let length = if random.once_in(64) { random.below(6_000) as usize } else { STATE_LENGTH };
         let taken = draw_count(random, 4);
         let state = if n % 64 == 0 { vec![0; STATE_LENGTH] } else { draw_state(random, length, taken) };
         let serial = if random.once_in(16) { Serial::wrong(random) } else { Serial::Due };
         let case = Case { state, sent: vec![Sent { call: random.call(), serial }] };
+        tally.meet(normal_kind(case.sent[0].call));
         if let Some(fault) = normal_fault(&case) {
             let smallest = case.shrink(&|case| normal_fault(case).is_some());
             let fault = normal_fault(&smallest).unwrap_or(fault);
             return Err(format!("{fault}; the smallest case found:\n{}\n", smallest.describe()));
         }
     }
-    Ok(count)
+    tally.needs(&["none", "fms64", "mac16", "vecint", "vecfp"], "normal operands")?;
+    Ok(tally)
+}
+
+/// The instruction of a call that has a normal operand.
+fn normal_kind(call: Call) -> String {
+    let known = Instruction::from_number(call.instruction).filter(|_| normal(call).is_ok());
+    known.map_or("none", Instruction::name).to_owned()
 }
 
 fn normal_fault(case: &Case) -> Option<String> {
@@ -375,6 +462,40 @@ mod tests {
         match second(state, call, serial) {
             _ if state.len() == REGISTER_BYTES => by_call(call),
             answer => answer,
+        }
+    }
+
+    /// An operand of vecfp by vecint's modes: 2 and 3 are among them.
+    fn modes_of_vecint(state: &mut [u8], call: Call, serial: u64) -> u64 {
+        let wrong = call.instruction == 19 && matches!(call.operand >> 47 & 127, 2 | 3 | 6);
+        second(state, if wrong { Call { operand: put(call.operand, 47, 53, 0), ..call } } else { call }, serial)
+    }
+
+    /// vecfp's mode 4 with its shuffles ignored, as vecint's are.
+    fn shuffles_of_mode_4(state: &mut [u8], call: Call, serial: u64) -> u64 {
+        let wrong = call.instruction == 19 && call.operand >> 47 & 127 == 4;
+        second(state, if wrong { Call { operand: put(call.operand, 27, 30, 0), ..call } } else { call }, serial)
+    }
+
+    fn both_inputs_of_fms64(state: &mut [u8], call: Call, serial: u64) -> u64 {
+        let wrong = call.instruction == 11 && call.operand >> 28 & 3 == 0;
+        second(state, if wrong { Call { operand: call.operand | 1 << 28, ..call } } else { call }, serial)
+    }
+
+    fn instruction_by_a_byte(state: &mut [u8], call: Call, serial: u64) -> u64 {
+        second(state, Call { instruction: call.instruction & 255, ..call }, serial)
+    }
+
+    #[test]
+    fn the_table_finds_what_is_wrong_about_floats() {
+        for (step, difference) in [
+            (modes_of_vecint as Step, "answer 0: proved 131076, reference 65538"),
+            (shuffles_of_mode_4, "proved 64, reference 131076"),
+            (both_inputs_of_fms64, "reference 131076"),
+            (instruction_by_a_byte, "reference 131075"),
+        ] {
+            let report = table(step, &mut Random::new(1), &mut Tally::default()).unwrap_err();
+            assert!(report.contains(difference), "{difference}: {report}");
         }
     }
 

@@ -1,7 +1,7 @@
 //! Lists of calls rearranged by chains of allowed swaps of neighbours.
 use crate::case::{Case, End, REFUSED, difference, proved};
 use crate::sent::{Sent, count_of, draw_count, draw_state, set_count};
-use amx::{Call, STATE_LENGTH, random::Random, reference};
+use amx::{Call, STATE_LENGTH, random::Random, random::put, reference};
 
 /// What decides whether a call may be swapped, by the reference: the bytes of each row in enabled lanes, and the lane width if it only adds;
 /// and whether it raises the count.
@@ -50,6 +50,16 @@ fn raised<'a>(count: Option<u64>, calls: impl Iterator<Item = &'a Reach>) -> Opt
     Some(count?.saturating_add(calls.filter(|reach| reach.raises).count() as u64))
 }
 
+/// Whether a call is done and adds floats to old Z: a sum of vecfp, or a difference of fms64.
+fn adds_floats(call: Call) -> bool {
+    let done = reference::normal(call.instruction, call.generation, call.operand).is_ok();
+    match call.instruction {
+        11 => done && matches!(call.operand >> 27 & 7, 2 | 4),
+        19 => done && matches!(call.operand >> 47 & 63, 11 | 12),
+        _ => false,
+    }
+}
+
 /// What was swapped.
 #[derive(Default)]
 pub struct Swaps {
@@ -58,6 +68,9 @@ pub struct Swaps {
     pub adding: u64,
     pub not_allowed: u64,
     pub not_allowed_differ: u64,
+    /// Of those that are not allowed, both adding floats.
+    pub floats: u64,
+    pub floats_differ: u64,
     pub no_room: u64,
     pub no_room_differ: u64,
 }
@@ -74,10 +87,16 @@ pub fn chains(random: &mut Random, lists: u64) -> Result<Swaps, String> {
         chain(random, &case, &mut swaps)?;
         swaps.chains += 1;
     }
+    if swaps.floats_differ == 0 {
+        return Err(format!(
+            "of {} pairs that add floats to the same lanes none differs when swapped, so that the rule was not tested",
+            swaps.floats
+        ));
+    }
     Ok(swaps)
 }
 
-/// Random calls; or calls that often meet and only add, at either width.
+/// Random calls; or calls that often meet and only add, at either width, and such as add floats.
 fn draw_list(random: &mut Random, adding: bool) -> Vec<Call> {
     let count = random.below(24);
     let mut draw = |_| {
@@ -85,6 +104,13 @@ fn draw_list(random: &mut Random, adding: bool) -> Vec<Call> {
         if adding {
             call.operand &= match call.instruction {
                 14 => !(1 << 27),
+                // z - x in few rows
+                11 => !(1 << 27 | 0x36 << 20),
+                // z + x of singles in few rows
+                19 => {
+                    call.operand = put(put(call.operand, 47, 53, 11), 42, 45, 4);
+                    !(7 << 54 | 15 << 27 | 0x3e << 20)
+                }
                 // few rows, and ALU modes 0 to 3 or an indexed load; nothing that is refused
                 _ if call.operand >> 53 & 1 == 1 => !(7 << 54 | 15 << 27 | 0x3e << 20),
                 _ => !(0x3fc << 47 | 15 << 27 | 0x3e << 20),
@@ -116,8 +142,13 @@ fn chain(random: &mut Random, case: &Case, swaps: &mut Swaps) -> Result<(), Stri
             *(if a.meets(b) { &mut swaps.adding } else { &mut swaps.apart }) += 1;
             order.swap(at, at + 1);
         } else if swaps.not_allowed < 20_000 {
+            let differ = differs();
             swaps.not_allowed += 1;
-            swaps.not_allowed_differ += differs();
+            swaps.not_allowed_differ += differ;
+            if [at, at + 1].into_iter().all(|at| adds_floats(case.sent[order[at]].call)) {
+                swaps.floats += 1;
+                swaps.floats_differ += differ;
+            }
         }
     }
     let rearranged = Case { state: case.state.clone(), sent: order.iter().map(|&place| case.sent[place]).collect() };
@@ -204,9 +235,33 @@ mod tests {
             assert!(!allowed(&vecint(1 << 53 | fields << 47), &vecint(3 << 42)));
             assert!(!allowed(&vecint(1 << 53 | fields << 47 | 3 << 32), &vecint(0)));
         }
+        // sums of floats are rounded, so two that meet don't swap; nor do floats and integers, nor moves
+        let vecfp = |operand| Reach::of(STATE_LENGTH, Call::new(19, 2, operand));
+        let fms64 = |operand| Reach::of(STATE_LENGTH, Call::new(11, 2, operand));
+        let (sum, difference) = (11 << 47 | 4 << 42, 1 << 63 | 1 << 28);
+        assert!(!allowed(&vecfp(sum), &vecfp(sum)) && !allowed(&vecfp(sum), &vecfp(sum ^ 7 << 47)));
+        assert!(!allowed(&fms64(difference), &fms64(difference)) && !allowed(&vecfp(sum), &fms64(difference)));
+        assert!(!allowed(&vecfp(sum), &vector) && !allowed(&fms64(3 << 28), &fms64(3 << 28)));
+        // apart, they do: other rows, other lanes, other rows of a matrix
+        assert!(allowed(&vecfp(sum), &vecfp(sum | 1 << 20)) && allowed(&vecfp(sum | 1 << 32), &vecfp(sum | 2 << 32)));
+        assert!(allowed(&fms64(1 << 28), &fms64(1 << 28 | 1 << 20)) && !allowed(&fms64(1 << 28), &fms64(1 << 28 | 1 << 23)));
+        assert!(allowed(&vecfp(sum), &vecfp(5 << 47)));
         // on another length any two
         let short = |operand| Reach::of(STATE_LENGTH - 1, Call::new(14, 1, operand));
         assert!(allowed(&short(0), &short(1 << 62)) && has_room(None));
+    }
+
+    #[test]
+    fn the_order_of_two_float_sums_shows() {
+        // 2^24 - 2^24 + 1 is 1, but 2^24 + 1 is rounded to 2^24, and 2^24 - 2^24 is 0
+        let mut state = vec![0; STATE_LENGTH];
+        for (at, float) in [(0, -16_777_216f32), (512, 1.0), (1_024, 16_777_216.0)] {
+            state[at..at + 4].copy_from_slice(&float.to_le_bytes());
+        }
+        let sums = [11 << 47 | 4 << 42, 12 << 47 | 4 << 42].map(|operand| Call::new(19, 2, operand));
+        assert!(sums.into_iter().all(adds_floats) && swapped_differs(&Case::due(state, sums)));
+        assert!(!adds_floats(Call::new(19, 1, 11 << 47 | 4 << 42)) && !adds_floats(Call::new(19, 2, 10 << 47 | 4 << 42)));
+        assert!(adds_floats(Call::new(11, 1, 1 << 28)) && !adds_floats(Call::new(11, 1, 0)) && !adds_floats(Call::new(14, 1, 0)));
     }
 
     #[test]

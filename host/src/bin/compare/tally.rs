@@ -20,12 +20,22 @@ impl Tally {
         *self.0.entry(name).or_default() += 1;
     }
 
+    /// Adds what another has met.
+    pub fn join(&mut self, other: Tally) {
+        other.0.into_iter().for_each(|(name, count)| *self.0.entry(name).or_default() += count);
+    }
+
     /// An error where one of these never came: what does not meet it compares nothing of it.
     pub fn needs(&self, names: &[&str], what: &str) -> Result<(), String> {
         match names.iter().find(|&&name| !self.0.contains_key(name)) {
             Some(name) => Err(format!("of the {what} none met {name}, so that it was not compared")),
             None => Ok(()),
         }
+    }
+
+    /// How many different ones came.
+    pub fn names(&self) -> usize {
+        self.0.len()
     }
 
     pub fn text(&self) -> String {

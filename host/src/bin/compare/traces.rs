@@ -2,7 +2,7 @@
 use crate::case::{Case, second};
 use crate::sent::{draw_count, draw_state, set_count};
 use crate::tally::Tally;
-use amx::{Call, Checkpoint, REGISTER_BYTES, Record, STATE_LENGTH, State, Trace, random::Random, reference};
+use amx::{Call, Checkpoint, Instruction, REGISTER_BYTES, Record, STATE_LENGTH, State, Trace, random::Random, reference};
 use std::{fs, io, path::Path, path::PathBuf, process::Command};
 
 /// What a program prints for a file.
@@ -222,11 +222,16 @@ pub fn draw_case(random: &mut Random) -> Case {
     Case::due(state, (0..records).map(|_| random.record().into()))
 }
 
-/// A call of each answer that a step of a trace can have at first: done, refused 4, no-op 1, 2 and 3, refused 2 and 3.
+/// A call of each answer that a step of a trace can have at first: done, refused 4, no-op 1, 2 and 3, refused 2 and 3; then those of vecfp
+/// and fms64, and a call of each instruction that is done.
 pub fn every_answer(random: &mut Random) -> Case {
     let vecint = |operand| Call::new(18, 1, operand);
+    let vecfp = |generation, operand: u64| Call::new(19, generation, 4 << 42 | operand);
     let calls = [Call::new(14, 1, 1 << 63), vecint(1 << 27), vecint(1 << 54), vecint(7 << 47), vecint(10 << 47)];
-    Case::due(random.state().bytes().to_vec(), calls.into_iter().chain([Call::new(14, 3, 0), Call::new(15, 1, 0)]))
+    let floats = [vecfp(1, 0), vecfp(1, 1 << 54), vecfp(1, 2 << 47), vecfp(1, 10 << 47), vecfp(1, 4 << 47), vecfp(2, 11 << 47)];
+    let others = [Call::new(11, 1, 1 << 63), Call::new(11, 2, 1 << 63 | 1 << 28), vecint(0)];
+    let unknown = [Call::new(14, 3, 0), Call::new(15, 1, 0)];
+    Case::due(random.state().bytes().to_vec(), calls.into_iter().chain(unknown).chain(floats).chain(others))
 }
 
 /// Every damage to a file of such calls, of two sections and of three; checkpoints at the ends, of other states and of the last counts;
@@ -272,12 +277,12 @@ fn reference_count(file: &[u8]) -> String {
 }
 
 /// Compares a program's text of a file with what the reference says, and gives it; an error is the report of the smallest case found.
-fn same_text(what: &str, case: Case, form: &Form, text: Text, expected: Text) -> Result<String, String> {
+fn same_text(what: &str, case: &Case, form: &Form, text: Text, expected: Text) -> Result<String, String> {
     let both = |case: &Case| {
         let file = file_of(case, form);
         (text(&file), expected(&file))
     };
-    let (given, same) = both(&case);
+    let (given, same) = both(case);
     if given == same {
         return Ok(same);
     }
@@ -285,7 +290,7 @@ fn same_text(what: &str, case: Case, form: &Form, text: Text, expected: Text) ->
         let (given, same) = both(case);
         given != same
     };
-    let smallest = case.shrink(&differs);
+    let smallest = case.clone().shrink(&differs);
     let (given, same) = both(&smallest);
     let found = first_difference([what, "reference"], [&given, &same]);
     Err(format!("{what} and the reference differ on a trace file ({form:?}); the smallest found:\n{}\n{found}", smallest.describe()))
@@ -300,7 +305,7 @@ pub fn first_difference(names: [&str; 2], texts: [&str; 2]) -> String {
 }
 
 /// What the files of either kind must have met, and the steps of those that are resumed.
-const NEEDED: [&str; 16] = [
+const NEEDED: [&str; 20] = [
     "two sections: run",
     "two sections: file refused 5",
     "two sections: file refused 6",
@@ -317,16 +322,25 @@ const NEEDED: [&str; 16] = [
     "resumed step: refused 3",
     "resumed step: refused 4",
     "resumed step: refused 9",
+    "resumed fms64: done",
+    "resumed mac16: done",
+    "resumed vecint: done",
+    "resumed vecfp: done",
 ];
 
-fn tally_text(tally: &mut Tally, form: &Form, text: &str) {
+fn tally_text(tally: &mut Tally, case: &Case, form: &Form, text: &str) {
     let sections = if form.checkpoint.is_some() { "three sections" } else { "two sections" };
     let refused = text.lines().next().filter(|line| line.starts_with("file refused"));
     tally.meet(format!("{sections}: {}", refused.unwrap_or("run")));
     if form.checkpoint.is_some() {
         for line in text.lines() {
             match line.split(' ').collect::<Vec<_>>().as_slice() {
-                ["step", _, "done", _] => tally.meet("resumed step: done".to_owned()),
+                ["step", place, "done", _] => {
+                    let sent = place.parse().ok().and_then(|place: usize| case.sent.get(place));
+                    let name = sent.and_then(|sent| Instruction::from_number(sent.call.instruction)).map_or("step", Instruction::name);
+                    tally.meet(format!("resumed {name}: done"));
+                    tally.meet("resumed step: done".to_owned());
+                }
                 ["step", _, answer, number] => tally.meet(format!("resumed step: {answer} {number}")),
                 _ => {}
             }
@@ -338,8 +352,8 @@ fn tally_text(tally: &mut Tally, form: &Form, text: &str) {
 fn compare(random: &mut Random, files: u64, what: &str, text: Text, expected: Text) -> Result<(u64, Tally), String> {
     let (mut count, mut tally) = (0, Tally::default());
     for (case, form) in draw_files(random, files) {
-        let text = same_text(what, case, &form, text, expected)?;
-        tally_text(&mut tally, &form, &text);
+        let text = same_text(what, &case, &form, text, expected)?;
+        tally_text(&mut tally, &case, &form, &text);
         count += 1;
     }
     tally.needs(&NEEDED, "trace files")?;
@@ -518,11 +532,13 @@ mod tests {
     fn a_kind_that_was_never_met_is_told() {
         let mut tally = Tally::default();
         let form = Form { checkpoint: Some((Place::Start, Saved::Run)), damage: Damage::None };
-        tally_text(&mut tally, &form, "step 3 done 64\nstep 4 refused 9\nsteps 5\n");
-        tally_text(&mut tally, &form, "file refused 7\n");
+        let case = Case::due(vec![0; STATE_LENGTH], [14, 14, 14, 19, 14].map(|instruction| Call::new(instruction, 1, 0)));
+        tally_text(&mut tally, &case, &form, "step 3 done 64\nstep 4 refused 9\nsteps 5\n");
+        tally_text(&mut tally, &case, &form, "file refused 7\n");
         assert_eq!(
             tally.text(),
-            "resumed step: done: 1, resumed step: refused 9: 1, three sections: file refused 7: 1, three sections: run: 1"
+            "resumed step: done: 1, resumed step: refused 9: 1, resumed vecfp: done: 1, \
+             three sections: file refused 7: 1, three sections: run: 1"
         );
         assert!(tally.needs(&NEEDED, "trace files").unwrap_err().contains("none met two sections: run"));
     }
