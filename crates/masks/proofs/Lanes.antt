@@ -5,16 +5,15 @@ use mathlib.Core.Bool.{Bool, false}
 use mathlib.Core.List.{List}
 use mathlib.Core.Logic.{⊎-elim}
 use Prim.Native.Nat.{ℕ, suc, _+_, _-_, _*_, _/_, _%_, _^_, _≤_, _<_}
-use native.Mathlib.Nat.{zero-add, add-zero, add-mul, one-mul, mod-lt, max-eq-right, not-suc-le-zero}
+use native.Mathlib.Nat.{zero-add, add-zero, add-mul, one-mul, mod-lt, max-eq-right}
 use native.Mathlib.Omega.{arith}
 use lib.Dec.{eqb}
-use lib.ListN.{length, getD, set, length-set}
+use lib.ListN.{getD}
 use lib.Pow.{pow-pos, split, field, mod-mod-pow, shr-shr}
 use lib.Bits.{bitOr, or-step, or-zero-r, or-block}
 use borrow.Author.Tests.{eq-eqb, ne-eqb, eqb-true, eqb-false}
 use Rattle.number.specs.Bytes.{table}
 use Rattle.number.proofs.Bytes.{table-same, getD-table}
-use Rattle.number.proofs.Fill.{Filled, fill-more, fill-all}
 use Rattle.number.proofs.Tests.{two, lt-or-le}
 use Rattle.isa.specs.Operand.{bits, bit}
 use Rattle.masks.specs.Mask.{maskOf}
@@ -24,30 +23,7 @@ use Rattle.masks.proofs.Mask.{bits-are-lanes, shifted}
 pub lanes-of-rule : (f : ℕ → Bool) (places n m : ℕ) (on : List Bool) → n ≤ places → m ≡ maskOf f places → on ≡ table (bit m) 0 n → on ≡ table f 0 n
 lanes-of-rule f places n m on h e eo = eo ∙ table-same _ _ n (λ k l. ap (λ (x : ℕ). bit x k) e ∙ bits-are-lanes f places k (omega arith))
 
--- ---- as a loop makes them
-
--- the first k of n are made
-pub record LanesTo (n m : ℕ) (on : List Bool) (k : ℕ) : Type 0 where
-  pub most : k ≤ n
-  pub size : length on ≡ n
-  pub made : Filled false (bit m) on k
-
-module _ {n m : ℕ} {on : List Bool} where
-  pub lanes-none : length on ≡ n → LanesTo n m on 0
-  lanes-none size = record { most = omega arith; size = size; made = λ j h. absurd (not-suc-le-zero h) }
-
-  module _ {k : ℕ} (before : LanesTo n m on k) where
-    pub lanes-more : {lane : Bool} → k < n → lane ≡ bit m k → LanesTo n m (set on k lane) (k + 1)
-    lanes-more {lane} h e = record {
-      most = omega arith;
-      size = simp length-set (before .size);
-      made = fill-more false (bit m) k lane on (omega (arith, before .size)) e (before .made);
-    }
-
-    pub lanes-all : n ≤ k → on ≡ table (bit m) 0 n
-    lanes-all h = fill-all false (bit m) n k on (before .size) h (before .made)
-
--- all of them at once
+-- all of them on, at once
 abbrev all : ℕ
 all = 2 ^ 64 - 1
 

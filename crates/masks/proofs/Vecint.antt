@@ -1,4 +1,4 @@
--- vecint's mask: by the mode, at one lane width, of both sides, and of a vector.
+-- vecint's mask: by the mode, at one lane width, of both sides, and of a vector; vecfp's, by the same modes.
 -- Assumes nothing.
 use mathlib.Core.Path.{_≡_, refl, sym, ap, ap₂, subst, _∙_}
 use mathlib.Core.Bool.{Bool, true, false, cond, _&&_, _||_}
@@ -12,6 +12,7 @@ use Rattle.number.proofs.Tests.{two, true-false, either, pick-true, pick-false}
 use Rattle.isa.specs.Enable.{vecintEnables}
 use Rattle.isa.specs.Vecint as Vecint
 use Rattle.isa.specs.Vecint.{enableMode, enableValue}
+use Rattle.isa.specs.Vecfp as Vecfp
 use Rattle.isa.proofs.MixedWidths.{both-equal}
 use Rattle.operand.specs.Lanes.{lanesBy}
 use Rattle.operand.proofs.Lanes.{lanes-by}
@@ -149,3 +150,21 @@ module _ (generation op : ℕ) where
         → maskOf (Vecint.bothAllow (Vecint.widths op) (enableMode op) (enableValue op)) 64 ≡ vectorMask
     unfolding Vecint.masked
     two-sided-mask reads = by-rule _ (λ k. sym (pick-false _ _ reads))
+
+-- ---- vecfp's
+
+module _ (generation op : ℕ) where
+  abbrev vecfpMask : ℕ
+  vecfpMask = maskOf (Vecfp.enabled generation op) 64
+
+  pub several-vecfp : Vecint.several generation op ≡ true → 18446744073709551615 ≡ vecfpMask
+  unfolding Vecfp.enabled
+  several-vecfp on = all-is _ (λ k h. ap (λ (b : Bool). b || vecintEnables (Vecfp.lanes op) (enableMode op) (Vecfp.enableValue op) k) on)
+
+  module _ (one : Vecint.several generation op ≡ false) (mode n : ℕ) (em : mode ≡ enableMode op) (en : n ≡ Vecfp.enableValue op) where
+    pub some-vecfp : (lanes : ℕ) → lanes ≡ Vecfp.lanes op → maskOf (vecintEnables lanes mode n) 64 ≡ vecfpMask
+    unfolding Vecfp.enabled
+    some-vecfp lanes el = λ i. maskOf (λ k. sym one i || vecintEnables (el i) (em i) (en i) k) 64
+
+    pub all-vecfp : enablesAll mode n ≡ true → 18446744073709551615 ≡ vecfpMask
+    all-vecfp every = all-is _ (λ k h. all-enabled (Vecfp.lanes op) k mode n every) ∙ some-vecfp (Vecfp.lanes op) refl

@@ -1,0 +1,308 @@
+// vecfp on a lent state.
+ghost use mathlib.Core.Path.{_≡_};
+ghost use mathlib.Core.Bool.{cond};
+ghost use Prim.Native.Nat.{_+_, _*_, _/_, _<_, _≤_};
+ghost use lib.Dec.{eqb};
+ghost use lib.Ieee.{binary32, binary64};
+ghost use lib.ListN.{length, take};
+ghost use Rattle.number.specs.Bytes.{byteAt, table};
+ghost use Rattle.isa.specs.State.{xBase, yBase, zBase, registerBytes, loaded};
+ghost use Rattle.isa.specs.Operand.{bit};
+ghost use Rattle.isa.specs.Effect.{applied, count, bytesOn};
+ghost use Rattle.isa.specs.Vecint as Vecint;
+ghost use Rattle.isa.specs.Vecfp as Vecfp;
+ghost use Rattle.masks.specs.Mask.{maskOf};
+ghost use Rattle.vecfp.specs.Vectors.{xLane, yLane, sideLanes, aluLanes, resultLanes, vectorEffect};
+
+// ---- the 64 bytes of X and of Y for vector v, of four at most
+
+fn offset(first: u64, same: bool, v: usize) -> u64
+    requires { ⌜ (first < 512) × (v < 4) ⌝ }
+    ensures { λ r. ⌜ r ≡ first + cond same 0 (64 * v) ⌝ }
+{
+    if same {
+        return first;
+    }
+    first + 64 * (v as u64)
+}
+
+// Of Y, or of X, from an offset on; or 0.
+fn side_bytes(state: &[u8], y: bool, zero: bool, from: u64) -> [u8; 64]
+    ensures { λ r. ⌜ r ≡ table (λ i. cond zero 0 (loaded (now (state .entry)) (cond y yBase xBase) from i)) 0 64 ⌝ }
+{
+    if zero {
+        return [0u8; 64];
+    }
+    state::load(state, y, from)
+}
+
+fn x_bytes(state: &[u8], generation: u64, op: u64, v: usize) -> [u8; 64]
+    requires { ⌜ v < 4 ⌝ }
+    ensures { λ r. ⌜ r ≡ table (Vecfp.xBytes generation op (take zBase (now (state .entry))) v) 0 64 ⌝ }
+{
+    let same = operand::broadcasts(generation, op, 2, 6);
+    let from = offset(operand::field(op, 10, 18), same, v);
+    side_bytes(
+        state,
+        false,
+        operand::vecfp_overrides(generation, op, 4, 4),
+        from,
+    )
+}
+
+fn y_bytes(state: &[u8], generation: u64, op: u64, v: usize) -> [u8; 64]
+    requires { ⌜ v < 4 ⌝ }
+    ensures { λ r. ⌜ r ≡ table (Vecfp.yBytes generation op (take zBase (now (state .entry))) v) 0 64 ⌝ }
+{
+    let same = operand::broadcasts(generation, op, 3, 7);
+    let from = offset(operand::field(op, 0, 8), same, v);
+    side_bytes(
+        state,
+        true,
+        operand::vecfp_overrides(generation, op, 5, 5),
+        from,
+    )
+}
+
+// ---- the lane of X and of Y that every lane uses
+
+// No lane has this number: each lane uses its own.
+const OWN: usize = 64;
+
+fn x_lane(generation: u64, op: u64) -> usize
+    ensures { λ r. ⌜ r ≡ xLane generation op ⌝ }
+{
+    if operand::broadcasts(generation, op, 6, 6) {
+        return 0;
+    }
+    OWN
+}
+
+fn y_lane(generation: u64, op: u64) -> usize
+    ensures { λ r. ⌜ r ≡ yLane generation op ⌝ }
+{
+    if operand::broadcasts(generation, op, 7, 7) {
+        return 0;
+    }
+    if operand::several(generation, op) {
+        return OWN;
+    }
+    if operand::field(op, 38, 40) == 1 {
+        return operand::vecfp_value(op) as usize;
+    }
+    OWN
+}
+
+// ---- singles
+
+// The lanes of 64 bytes, or one of them for every lane.
+fn side32(bytes: &[u8; 64], lane: usize) -> [u32; 16]
+    ensures { λ r. ⌜ r ≡ sideLanes binary32 (byteAt (now (bytes .entry))) lane ⌝ }
+{
+    let words = state::words32(bytes);
+    if OWN <= lane {
+        return words;
+    }
+    [words[lane % 16]; 16]
+}
+
+fn alu32(mode: u64, x: u32, y: u32, z: u32) -> u32
+    ensures { λ r. ⌜ r ≡ Vecfp.alu binary32 mode x y z ⌝ }
+{
+    if mode == 4 {
+        return float::select32(x, y);
+    }
+    if mode == 10 {
+        return float::mul32(x, y);
+    }
+    if mode == 11 {
+        return float::add32(z, x);
+    }
+    float::add32(z, y)
+}
+
+fn lanes32(mode: u64, x: &[u32; 16], y: &[u32; 16], z: &[u32; 16]) -> [u32; 16]
+    ensures { λ r. ⌜ r ≡ aluLanes binary32 mode (now (x .entry)) (now (y .entry)) (now (z .entry)) ⌝ }
+{
+    let mut out = [0u32; 16];
+    for l in 0..16 {
+        out[l] = alu32(mode, x[l], y[l], z[l]);
+    }
+    out
+}
+
+// The same, with the mode told to the compiler, which makes a loop for each, and that it can do several lanes at a time.
+fn by_mode32(mode: u64, x: &[u32; 16], y: &[u32; 16], z: &[u32; 16]) -> [u32; 16]
+    ensures { λ r. ⌜ r ≡ aluLanes binary32 mode (now (x .entry)) (now (y .entry)) (now (z .entry)) ⌝ }
+{
+    if mode == 4 {
+        return lanes32(4, x, y, z);
+    }
+    if mode == 10 {
+        return lanes32(10, x, y, z);
+    }
+    if mode == 11 {
+        return lanes32(11, x, y, z);
+    }
+    lanes32(mode, x, y, z)
+}
+
+// What the lanes receive, which is 0 where an override forces it.
+fn results32(generation: u64, op: u64, x: &[u32; 16], y: &[u32; 16], z: &[u32; 16]) -> [u32; 16]
+    ensures { λ r. ⌜ r ≡ resultLanes binary32 generation op (now (x .entry)) (now (y .entry)) (now (z .entry)) ⌝ }
+{
+    if operand::vecfp_overrides(generation, op, 3, 1) {
+        return [0u32; 16];
+    }
+    by_mode32(operand::alu_mode(op), x, y, z)
+}
+
+// Vector v of singles.
+fn vector32(state: &mut [u8], generation: u64, op: u64, v: usize, mask: u64)
+    requires { ⌜ (length (now state) ≡ registerBytes) × (v < 64 / Vecint.stride generation op)
+        × (Vecfp.formatOf op ≡ binary32) × (mask ≡ maskOf (Vecfp.enabled generation op) 64) ⌝ }
+    ensures { λ _. ⌜ now (state .exit) ≡ applied (vectorEffect generation op v (now (state .entry))) (now (state .entry)) ⌝ }
+{
+    let on = masks::lanes16(mask);
+    let row = operand::vecfp_row(generation, op, v);
+    let xs = x_bytes(state, generation, op, v);
+    let ys = y_bytes(state, generation, op, v);
+    let x = side32(&xs, x_lane(generation, op));
+    let y = side32(&ys, y_lane(generation, op));
+    let z = state::row32(state, row);
+    let out = results32(generation, op, &x, &y, &z);
+    state::put_row32(state, row, &out, &on);
+}
+
+// ---- doubles
+
+// The lanes of 64 bytes, or one of them for every lane.
+fn side64(bytes: &[u8; 64], lane: usize) -> [u64; 8]
+    ensures { λ r. ⌜ r ≡ sideLanes binary64 (byteAt (now (bytes .entry))) lane ⌝ }
+{
+    let words = state::words64(bytes);
+    if OWN <= lane {
+        return words;
+    }
+    [words[lane % 8]; 8]
+}
+
+fn alu64(mode: u64, x: u64, y: u64, z: u64) -> u64
+    ensures { λ r. ⌜ r ≡ Vecfp.alu binary64 mode x y z ⌝ }
+{
+    if mode == 4 {
+        return float::select64(x, y);
+    }
+    if mode == 10 {
+        return float::mul64(x, y);
+    }
+    if mode == 11 {
+        return float::add64(z, x);
+    }
+    float::add64(z, y)
+}
+
+fn lanes64(mode: u64, x: &[u64; 8], y: &[u64; 8], z: &[u64; 8]) -> [u64; 8]
+    ensures { λ r. ⌜ r ≡ aluLanes binary64 mode (now (x .entry)) (now (y .entry)) (now (z .entry)) ⌝ }
+{
+    let mut out = [0u64; 8];
+    for l in 0..8 {
+        out[l] = alu64(mode, x[l], y[l], z[l]);
+    }
+    out
+}
+
+// The same, with the mode told to the compiler, which makes a loop for each.
+fn by_mode64(mode: u64, x: &[u64; 8], y: &[u64; 8], z: &[u64; 8]) -> [u64; 8]
+    ensures { λ r. ⌜ r ≡ aluLanes binary64 mode (now (x .entry)) (now (y .entry)) (now (z .entry)) ⌝ }
+{
+    if mode == 4 {
+        return lanes64(4, x, y, z);
+    }
+    if mode == 10 {
+        return lanes64(10, x, y, z);
+    }
+    if mode == 11 {
+        return lanes64(11, x, y, z);
+    }
+    lanes64(mode, x, y, z)
+}
+
+// What the lanes receive, which is 0 where an override forces it.
+fn results64(generation: u64, op: u64, x: &[u64; 8], y: &[u64; 8], z: &[u64; 8]) -> [u64; 8]
+    ensures { λ r. ⌜ r ≡ resultLanes binary64 generation op (now (x .entry)) (now (y .entry)) (now (z .entry)) ⌝ }
+{
+    if operand::vecfp_overrides(generation, op, 3, 1) {
+        return [0u64; 8];
+    }
+    by_mode64(operand::alu_mode(op), x, y, z)
+}
+
+// Vector v of doubles.
+fn vector64(state: &mut [u8], generation: u64, op: u64, v: usize, mask: u64)
+    requires { ⌜ (length (now state) ≡ registerBytes) × (v < 64 / Vecint.stride generation op)
+        × (Vecfp.formatOf op ≡ binary64) × (mask ≡ maskOf (Vecfp.enabled generation op) 64) ⌝ }
+    ensures { λ _. ⌜ now (state .exit) ≡ applied (vectorEffect generation op v (now (state .entry))) (now (state .entry)) ⌝ }
+{
+    let on = masks::lanes8(mask);
+    let row = operand::vecfp_row(generation, op, v);
+    let xs = x_bytes(state, generation, op, v);
+    let ys = y_bytes(state, generation, op, v);
+    let x = side64(&xs, x_lane(generation, op));
+    let y = side64(&ys, y_lane(generation, op));
+    let z = state::row64(state, row);
+    let out = results64(generation, op, &x, &y, &z);
+    state::put_row64(state, row, &out, &on);
+}
+
+// ---- vectors
+
+fn vector(state: &mut [u8], generation: u64, op: u64, v: usize, mask: u64)
+    requires { ⌜ (length (now state) ≡ registerBytes) × (v < 64 / Vecint.stride generation op) × (mask ≡ maskOf (Vecfp.enabled generation op) 64) ⌝ }
+    ensures { λ _. ⌜ now (state .exit) ≡ applied (vectorEffect generation op v (now (state .entry))) (now (state .entry)) ⌝ }
+{
+    if operand::single(op) {
+        vector32(state, generation, op, v, mask);
+        return;
+    }
+    vector64(state, generation, op, v, mask);
+}
+
+fn each_vector(state: &mut [u8], generation: u64, op: u64, mask: u64)
+    requires { ⌜ (length (now state) ≡ registerBytes) × (mask ≡ maskOf (Vecfp.enabled generation op) 64) ⌝ }
+    ensures { λ _. ⌜ now (state .exit) ≡ applied (Vecfp.vecfp generation op) (now (state .entry)) ⌝ }
+{
+    let vectors = operand::vectors(generation, op);
+    for v in 0..vectors {
+        vector(state, generation, op, v, mask);
+    }
+}
+
+// The bytes of a vector's enabled lanes.
+fn vector_bytes(op: u64, mask: u64) -> u64
+    ensures { λ r. ⌜ (r ≡ count (bit mask) (Vecfp.lanes op) * Vecfp.width (Vecfp.formatOf op)) × (r ≤ 512) ⌝ }
+{
+    masks::count_first(mask, operand::vecfp_lanes(op)) * operand::vecfp_width(op)
+}
+
+// Each vector enables the same lanes.
+fn bytes_enabled(generation: u64, op: u64, mask: u64) -> u64
+    requires { ⌜ mask ≡ maskOf (Vecfp.enabled generation op) 64 ⌝ }
+    ensures { λ r. ⌜ r ≡ bytesOn (Vecfp.vecfp generation op) ⌝ }
+{
+    operand::vectors(generation, op) as u64 * vector_bytes(op, mask)
+}
+
+// vecfp on a state of 5,120 bytes, and the count of bytes in enabled lanes; a state of another length stays as it is.
+pub fn step(state: &mut [u8], generation: u64, op: u64) -> u64
+    ensures { λ r. ⌜ (now (state .exit) ≡ cond (eqb (length (now (state .entry))) registerBytes)
+        (applied (Vecfp.vecfp generation op) (now (state .entry))) (now (state .entry)))
+        × (r ≡ cond (eqb (length (now (state .entry))) registerBytes) (bytesOn (Vecfp.vecfp generation op)) 0) ⌝ }
+{
+    if state.len() != 5120 {
+        return 0;
+    }
+    let mask = masks::vecfp_mask(generation, op);
+    each_vector(state, generation, op, mask);
+    bytes_enabled(generation, op, mask)
+}
