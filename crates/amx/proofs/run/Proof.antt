@@ -62,19 +62,15 @@ returns-4 c =
     ran (a .registers .now) (done .step4 .last .0) (done .step4 .result) (a .instruction) (a .generation) (a .operand) fms64
     (ap instructionBy (test .if4 .taken)) (done .step4 .ensures)
 
-same-length-5 : tie.Need-same-length-5
-same-length-5 c = search needs
-
 returns-5 : tie.Need-returns-5
 returns-5 c =
-    let last = c .before .before in
-    let third = last .before in
+    let third = c .before in
     let second = third .before in
     let first = second .before in
     let a = first .before .before .args in
     let not-18 = second .if2 .left in
     ran (a .registers .now) (a .registers .now) 0 (a .instruction) (a .generation) (a .operand) other
-    (is-other (a .instruction) not-18 (third .if3 .left) (last .if4 .left) (first .if1 .left)) (ran-nothing (a .registers .now))
+    (is-other (a .instruction) not-18 (third .if3 .left) (c .if4 .left) (first .if1 .left)) (ran-nothing (a .registers .now))
 
 pub run-spec : {M : Type 1} → statement M
 run-spec =
@@ -92,5 +88,4 @@ run-spec =
     step-requires-4
     same-length-4
     returns-4
-    same-length-5
     returns-5)
