@@ -65,20 +65,16 @@ module _ (b m : ℕ) (fit : m * b ≡ 64) where
     stored-none size small = (omega arith, lanes-none b m fit row enabled value s₀ size, small)
 
     -- Lane l is stored anew; what it was had been read before any of them.
-    pub stored-more : (zs : List ℕ) → zs ≡ table (λ l. number b (byteAt s₀) (start b (row % 64) l)) 0 m
+    pub stored-more : (zs : List ℕ) → zs ≡ table (λ l. number b (byteAt s₀) (start b row l)) 0 m
         → (l v : ℕ) (s t : List ℕ) → Bytes s₀ → Bytes t → row < 64 → l < m → Stored l s
         → v ≡ cond (getD on l false) (getD values l 0) (getD zs l 0) → t ≡ sets s (start b row l) (bytesOf b v) → Stored (l + 1) t
     stored-more zs ez l v s t small now hr hl held ev et =
         (omega arith, lanes-more b m fit row enabled value s₀ l s t small hr hl (held .1) stored, now)
       where
-        same : row % 64 ≡ row
-        same = mod-eq-of-lt hr
-
         -- a lane that is not stored yet
         still : getD zs l 0 ≡ number b (byteAt s) (start b row l)
         still =
-            ap (λ (v : List ℕ). getD v l 0) ez ∙ at 0 (λ k. number b (byteAt s₀) (start b (row % 64) k)) m l hl
-            ∙ ap (λ (r : ℕ). number b (byteAt s₀) (start b r l)) same
+            ap (λ (v : List ℕ). getD v l 0) ez ∙ at 0 (λ k. number b (byteAt s₀) (start b row k)) m l hl
             ∙ sym (lanes-still b m fit row enabled value s₀ l s hr hl (held .1))
 
         chosen : v ≡ cond (getD on l false) (getD values l 0) (number b (byteAt s) (start b row l))

@@ -1,4 +1,4 @@
-use Rattle.state.proofs.Numbers.{Stored, stored-none, stored-more, stored-all, stored-outside}
+use Rattle.state.proofs.Numbers.{row-read, Stored, stored-none, stored-more, stored-all, stored-outside}
 use Rattle.number.proofs.Tests.{pick-false}
 use borrow.Author.Tests.{ne-eqb}
 use lib.ListN.{length}
@@ -25,12 +25,22 @@ returns-2 c =
     let a = c .before .before .before .args in
     stored-outside 4 16 refl (a .row) (a .values .now) (a .on .now) (a .state .now) (omega arith) (c .before .if1 .left)
 
-row32-requires : tie.Need-row32-requires Inv-loop μ-loop
-row32-requires c κs = search needs
+mul-straight : tie.Need-mul-straight Inv-loop μ-loop
+mul-straight c = search needs
+
+add-straight : tie.Need-add-straight Inv-loop μ-loop
+add-straight c = search needs
+
+straight-requires : tie.Need-straight-requires Inv-loop μ-loop
+straight-requires c κs = search needs
+
+words32-requires : tie.Need-words32-requires Inv-loop μ-loop
+words32-requires c κs = search needs
 
 loop-holds : tie.Need-loop-holds Inv-loop μ-loop
 loop-holds c =
-    let sized = c .before .before .before in
+    let bytes = c .before .before in
+    let sized = bytes .before .before .before in
     let known = sized .before in
     let a = known .before .args in
     stored-none 4 16 refl (a .row) (a .values .now) (a .on .now) (a .state .now) (sized .if1 .left) (λ p. known .slice-known .given p .fits)
@@ -80,23 +90,28 @@ loop-again : tie.Need-loop-again Inv-loop μ-loop
 loop-again c =
     let put = c .before .before in
     let chosen = put .before in
-    let turn = chosen .before .before .before .before .before in
+    let inside = chosen .before .before .before .before in
+    let turn = inside .before in
     let zs = turn .before in
-    let known = zs .before .before .before .before in
+    let bytes = zs .before .before in
+    let known = bytes .before .before .before .before in
     let a = known .before .args in
-    stored-more 4 16 refl (a .row) (a .values .now) (a .on .now) (a .state .now) (zs .row32 .result) (zs .row32 .ensures)
+    stored-more 4 16 refl (a .row) (a .values .now) (a .on .now) (a .state .now) (zs .words32 .result)
+    (row-read 4 16 refl (a .state .now) (bytes .straight .result) (zs .words32 .result) (a .row) (bytes .straight .ensures) (zs .words32 .ensures))
     (turn .loop .l) (chosen .chosen32 .result) (turn .loop .state) (put .store32 .last .0) (λ p. known .slice-known .given p .fits)
-    (λ p. c .slice-known2 .given p .fits) (omega arith) (omega arith) (turn .loop .inv) (chosen .chosen32 .ensures) (put .store32 .ensures)
+    (λ p. c .slice-known2 .given p .fits) (omega arith) (inside .loop-test .taken) (turn .loop .inv) (chosen .chosen32 .ensures) (put .store32 .ensures)
 
 same-length : tie.Need-same-length Inv-loop μ-loop
 same-length c =
     let end = c .before in
-    end .loop .inv .1 .size ∙ sym (end .before .before .before .before .if1 .left)
+    let bytes = end .before .before .before in
+    end .loop .inv .1 .size ∙ sym (bytes .before .before .before .if1 .left)
 
 returns-3 : tie.Need-returns-3 Inv-loop μ-loop
 returns-3 c =
     let end = c .before in
-    let sized = end .before .before .before .before in
+    let bytes = end .before .before .before in
+    let sized = bytes .before .before .before in
     let known = sized .before in
     let a = known .before .args in
     stored-all 4 16 refl (a .row) (a .values .now) (a .on .now) (a .state .now) (end .loop .l) (end .loop .state)
@@ -110,7 +125,10 @@ put-row32-spec =
     μ-loop
     returns
     returns-2
-    row32-requires
+    mul-straight
+    add-straight
+    straight-requires
+    words32-requires
     loop-holds
     mul-store32
     mul-store32-2

@@ -1,4 +1,4 @@
-use Rattle.state.proofs.Numbers.{Stored, stored-none, stored-more, stored-all, stored-outside}
+use Rattle.state.proofs.Numbers.{row-read, Stored, stored-none, stored-more, stored-all, stored-outside}
 use Rattle.number.proofs.Tests.{pick-false}
 use borrow.Author.Tests.{ne-eqb}
 use lib.ListN.{length}
@@ -25,12 +25,22 @@ returns-2 c =
     let a = c .before .before .before .args in
     stored-outside 8 8 refl (a .row) (a .values .now) (a .on .now) (a .state .now) (omega arith) (c .before .if1 .left)
 
-row64-requires : tie.Need-row64-requires Inv-loop μ-loop
-row64-requires c κs = search needs
+mul-straight : tie.Need-mul-straight Inv-loop μ-loop
+mul-straight c = search needs
+
+add-straight : tie.Need-add-straight Inv-loop μ-loop
+add-straight c = search needs
+
+straight-requires : tie.Need-straight-requires Inv-loop μ-loop
+straight-requires c κs = search needs
+
+words64-requires : tie.Need-words64-requires Inv-loop μ-loop
+words64-requires c κs = search needs
 
 loop-holds : tie.Need-loop-holds Inv-loop μ-loop
 loop-holds c =
-    let sized = c .before .before .before in
+    let bytes = c .before .before in
+    let sized = bytes .before .before .before in
     let known = sized .before in
     let a = known .before .args in
     stored-none 8 8 refl (a .row) (a .values .now) (a .on .now) (a .state .now) (sized .if1 .left) (λ p. known .slice-known .given p .fits)
@@ -80,23 +90,28 @@ loop-again : tie.Need-loop-again Inv-loop μ-loop
 loop-again c =
     let put = c .before .before in
     let chosen = put .before in
-    let turn = chosen .before .before .before .before .before in
+    let inside = chosen .before .before .before .before in
+    let turn = inside .before in
     let zs = turn .before in
-    let known = zs .before .before .before .before in
+    let bytes = zs .before .before in
+    let known = bytes .before .before .before .before in
     let a = known .before .args in
-    stored-more 8 8 refl (a .row) (a .values .now) (a .on .now) (a .state .now) (zs .row64 .result) (zs .row64 .ensures)
+    stored-more 8 8 refl (a .row) (a .values .now) (a .on .now) (a .state .now) (zs .words64 .result)
+    (row-read 8 8 refl (a .state .now) (bytes .straight .result) (zs .words64 .result) (a .row) (bytes .straight .ensures) (zs .words64 .ensures))
     (turn .loop .l) (chosen .chosen64 .result) (turn .loop .state) (put .store64 .last .0) (λ p. known .slice-known .given p .fits)
-    (λ p. c .slice-known2 .given p .fits) (omega arith) (omega arith) (turn .loop .inv) (chosen .chosen64 .ensures) (put .store64 .ensures)
+    (λ p. c .slice-known2 .given p .fits) (omega arith) (inside .loop-test .taken) (turn .loop .inv) (chosen .chosen64 .ensures) (put .store64 .ensures)
 
 same-length : tie.Need-same-length Inv-loop μ-loop
 same-length c =
     let end = c .before in
-    end .loop .inv .1 .size ∙ sym (end .before .before .before .before .if1 .left)
+    let bytes = end .before .before .before in
+    end .loop .inv .1 .size ∙ sym (bytes .before .before .before .if1 .left)
 
 returns-3 : tie.Need-returns-3 Inv-loop μ-loop
 returns-3 c =
     let end = c .before in
-    let sized = end .before .before .before .before in
+    let bytes = end .before .before .before in
+    let sized = bytes .before .before .before in
     let known = sized .before in
     let a = known .before .args in
     stored-all 8 8 refl (a .row) (a .values .now) (a .on .now) (a .state .now) (end .loop .l) (end .loop .state)
@@ -110,7 +125,10 @@ put-row64-spec =
     μ-loop
     returns
     returns-2
-    row64-requires
+    mul-straight
+    add-straight
+    straight-requires
+    words64-requires
     loop-holds
     mul-store64
     mul-store64-2
