@@ -20,7 +20,7 @@ use Rattle.state.specs.Rows.{among, oneRow}
 use Rattle.state.proofs.Holds.{Bytes, laneAfter}
 use Rattle.state.proofs.RunLoop.{among-one, run-outside}
 use Rattle.state.proofs.RowsLoop.{same-lanes}
-use Rattle.state.proofs.Dealing.{in-row, Lanes, lanes-none, lanes-more, lanes-all}
+use Rattle.state.proofs.Dealing.{in-row, Lanes, lanes-none, lanes-still, lanes-more, lanes-all}
 
 at : {A : Type 0} (d : A) (f : ℕ → A) (n k : ℕ) → k < n → getD (table f 0 n) k d ≡ f k
 at d f n k h = getD-table f d 0 n k h ∙ ap f (zero-add k)
@@ -64,9 +64,24 @@ module _ (b m : ℕ) (fit : m * b ≡ 64) where
     pub stored-none : length s₀ ≡ 5120 → Bytes s₀ → Stored 0 s₀
     stored-none size small = (omega arith, lanes-none b m fit row enabled value s₀ size, small)
 
-    pub stored-more : (l : ℕ) (s t : List ℕ) → Bytes s₀ → Bytes t → row < 64 → l < m → Stored l s
-        → t ≡ sets s (start b row l) (bytesOf b (cond (getD on l false) (getD values l 0) (number b (byteAt s) (start b row l)))) → Stored (l + 1) t
-    stored-more l s t small now hr hl held et = (omega arith, lanes-more b m fit row enabled value s₀ l s t small hr hl (held .1) et, now)
+    -- Lane l is stored anew; what it was had been read before any of them.
+    pub stored-more : (zs : List ℕ) → zs ≡ table (λ l. number b (byteAt s₀) (start b row l)) 0 m
+        → (l v : ℕ) (s t : List ℕ) → Bytes s₀ → Bytes t → row < 64 → l < m → Stored l s
+        → v ≡ cond (getD on l false) (getD values l 0) (getD zs l 0) → t ≡ sets s (start b row l) (bytesOf b v) → Stored (l + 1) t
+    stored-more zs ez l v s t small now hr hl held ev et =
+        (omega arith, lanes-more b m fit row enabled value s₀ l s t small hr hl (held .1) stored, now)
+      where
+        -- a lane that is not stored yet
+        still : getD zs l 0 ≡ number b (byteAt s) (start b row l)
+        still =
+            ap (λ (v : List ℕ). getD v l 0) ez ∙ at 0 (λ k. number b (byteAt s₀) (start b row k)) m l hl
+            ∙ sym (lanes-still b m fit row enabled value s₀ l s hr hl (held .1))
+
+        chosen : v ≡ cond (getD on l false) (getD values l 0) (number b (byteAt s) (start b row l))
+        chosen = ev ∙ ap (cond (getD on l false) (getD values l 0)) still
+
+        stored : t ≡ sets s (start b row l) (bytesOf b (cond (getD on l false) (getD values l 0) (number b (byteAt s) (start b row l))))
+        stored = et ∙ ap (λ (n : ℕ). sets s (start b row l) (bytesOf b n)) chosen
 
     pub stored-all : (l : ℕ) (s : List ℕ) → m ≤ l → length s₀ ≡ 5120 → Bytes s₀ → Stored l s
         → s ≡ cond (eqb (length s₀) 5120) (applied (oneRow b row enabled value) s₀) s₀
