@@ -103,8 +103,9 @@ module _ (f : Format) (s : List ℕ) (side : Side) {r : List ℕ} where
 -- X and Y lie before byte 1,024 of the state
 in-xy : (s : List ℕ) (side : Side) (i : ℕ) → sideByte s side i ≡ sideByte (take 1024 s) side i
 in-xy s side i =
-    ap (cond (side .zero) 0)
-    (sym (getD-take 1024 s (cond (side .y) yBase xBase + (side .from + i) % 512) 0 (omega (arith, either (λ n. n ≤ 512) (side .y) {x = yBase} {y = xBase} (omega arith) (omega arith)))))
+    let base : ℕ = cond (side .y) yBase xBase in
+    let low : base ≤ 512 = either (λ n. n ≤ 512) (side .y) (omega arith) (omega arith) in
+    ap (cond (side .zero) 0) (sym (getD-take 1024 s (base + (side .from + i) % 512) 0 (omega (arith, low))))
 
 -- lane l of a side
 pub side-at : (f : Format) (s : List ℕ) (side : Side) (lanes : List ℕ) → lanes ≡ sideLanes f s side → (l : ℕ) → l < lanesIn f
