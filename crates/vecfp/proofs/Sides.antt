@@ -1,10 +1,10 @@
--- The lanes of X and of Y: their bytes, and the lane that each lane uses. Over the format.
+-- The lanes of X and of Y: those loaded, and the lane that each lane uses. Over the format.
 -- Assumes nothing.
 use mathlib.Core.Path.{_≡_, refl, sym, ap, _∙_}
 use mathlib.Core.Bool.{Bool, true, false, cond, not, _&&_}
 use mathlib.Core.List.{List}
-use Prim.Native.Nat.{ℕ, _+_, _*_, _%_, _≤_, _<_}
-use native.Mathlib.Nat.{zero-add, zero-mod, mod-lt, mul-comm}
+use Prim.Native.Nat.{ℕ, zero, suc, _+_, _*_, _%_, _≤_, _<_}
+use native.Mathlib.Nat.{zero-add, zero-mod, mod-lt, mod-add-mod, mul-comm}
 use native.Mathlib.Omega.{arith}
 use lib.Arith.{digits-lt}
 use lib.Dec.{eqb, leb}
@@ -14,13 +14,14 @@ use lib.Seq.{getD-take}
 use borrow.Author.Tests.{le-leb, lt-leb, eq-eqb, ne-eqb}
 use Rattle.number.specs.Bytes.{byteAt, number, table}
 use Rattle.number.proofs.Bytes.{getD-table, table-same, number-same}
-use Rattle.number.proofs.Tests.{two, pick-true, pick-false}
-use Rattle.isa.specs.State.{loaded}
+use Rattle.number.proofs.Tests.{either, pick-true, pick-false}
+use Rattle.isa.specs.State.{xBase, yBase, loaded}
 use Rattle.isa.specs.Vecint as Vecint
 use Rattle.isa.specs.Vecfp as Vecfp
 use Rattle.isa.specs.Vecfp.{width}
 use Rattle.operand.proofs.Fields.{bits-lt}
-use Rattle.vecfp.specs.Vectors.{own, xLane, yLane, laneUsed, lanesIn, sideLanes}
+use Rattle.vecfp.specs.declared.Side.{Side}
+use Rattle.vecfp.specs.Vectors.{own, xLane, yLane, laneUsed, lanesIn, sideByte, wordsOf, sideLanes}
 
 -- lanes fill a row, and 64 bytes of a side
 pub fits : (f : Format) → lanesIn f * width f ≡ 64
@@ -38,70 +39,82 @@ few-lanes binary64 = omega arith
 pub at : {A : Type 0} (d : A) (f : ℕ → A) (n k : ℕ) → k < n → getD (table f 0 n) k d ≡ f k
 at d f n k h = getD-table f d 0 n k h ∙ ap f (zero-add k)
 
--- ---- bytes
+-- ---- a load
+
+module _ (f : Format) (s : List ℕ) (base from : ℕ) where
+  -- the word of lane l, by a list of the bytes
+  held-word : (bytes : List ℕ) → bytes ≡ table (loaded s base from) 0 64 → (l : ℕ) → l < lanesIn f
+      → number (width f) (byteAt bytes) (width f * l) ≡ number (width f) (loaded s base from) (width f * l)
+  held-word bytes eb l hl = number-same (width f) (byteAt bytes) (loaded s base from) (width f * l) byte
+    where
+      byte : (k : ℕ) → k < width f → byteAt bytes (width f * l + k) ≡ loaded s base from (width f * l + k)
+      byte k hk =
+          let inside : l * width f + k < lanesIn f * width f = digits-lt hl hk in
+          ap (λ (x : List ℕ). byteAt x (width f * l + k)) eb
+          ∙ at 0 (loaded s base from) 64 (width f * l + k) (omega (arith, inside, fits f, mul-comm (width f) l))
+
+  pub load-words : {bytes r : List ℕ} → bytes ≡ table (loaded s base from) 0 64 → r ≡ wordsOf f (byteAt bytes) → r ≡ wordsOf f (loaded s base from)
+  load-words {bytes} eb er = er ∙ table-same _ _ (lanesIn f) (held-word bytes eb)
+
+  -- the offset may be taken round the ring first
+  pub near-words : {r : List ℕ} → r ≡ wordsOf f (loaded s base (from % 512)) → r ≡ wordsOf f (loaded s base from)
+  near-words er = er ∙ (λ t. wordsOf f (λ i. byteAt s (base + mod-add-mod from 512 i t)))
+
+-- ---- a side
+
+nought : (b : ℕ) (g : ℕ → ℕ) → ((i : ℕ) → g i ≡ 0) → (p : ℕ) → number b g p ≡ 0
+unfolding number
+nought zero g none p = refl
+nought (suc b) g none p = omega (arith, none p, nought b g none (suc p))
+
+-- what is loaded for it
+abbrev loadedFor : List ℕ → Side → ℕ → ℕ
+loadedFor s side = loaded s (cond (side .y) yBase xBase) (side .from)
+
+module _ (f : Format) (s : List ℕ) (side : Side) {r : List ℕ} where
+  pub side-zero : side .zero ≡ true → r ≡ table (λ l. 0) 0 (lanesIn f) → r ≡ sideLanes f s side
+  side-zero t er =
+      er
+      ∙ table-same _ _ (lanesIn f)
+      (λ l hl. sym (nought (width f) (sideByte s side) (λ i. pick-true 0 (loadedFor s side i) t) (width f * laneUsed (lanesIn f) (side .lane) l)))
+
+  -- the lanes by the bytes and the lane used, one in place of the other
+  as-used : (used : ℕ → ℕ) → side .zero ≡ false → ((l : ℕ) → used l ≡ laneUsed (lanesIn f) (side .lane) l)
+      → r ≡ table (λ l. number (width f) (loadedFor s side) (width f * used l)) 0 (lanesIn f) → r ≡ sideLanes f s side
+  as-used used z eu er =
+      er ∙ (λ i. table (λ l. number (width f) (λ k. sym (pick-false 0 (loadedFor s side k) z) i) (width f * eu l i)) 0 (lanesIn f))
+
+  pub side-own : side .zero ≡ false → own ≤ side .lane → r ≡ wordsOf f (loadedFor s side) → r ≡ sideLanes f s side
+  side-own z h = as-used (λ l. l) z (λ l. sym (pick-true l (side .lane % lanesIn f) (le-leb own (side .lane) h)))
+
+  pub side-one : side .zero ≡ false → side .lane < own → (words : List ℕ) → words ≡ wordsOf f (loadedFor s side)
+      → r ≡ table (λ l. getD words (side .lane % lanesIn f) 0) 0 (lanesIn f) → r ≡ sideLanes f s side
+  side-one z h words ew er =
+      as-used (λ l. lane) z (λ l. sym (pick-false l lane (lt-leb own (side .lane) h))) (er ∙ (λ i. table (λ l. chosen i) 0 (lanesIn f)))
+    where
+      lane : ℕ
+      lane = side .lane % lanesIn f
+
+      chosen : getD words (side .lane % lanesIn f) 0 ≡ number (width f) (loadedFor s side) (width f * (side .lane % lanesIn f))
+      chosen =
+          ap (λ (x : List ℕ). getD x lane 0) ew
+          ∙ at 0 (λ l. number (width f) (loadedFor s side) (width f * l)) (lanesIn f) lane (mod-lt (side .lane) (some-lanes f))
 
 -- X and Y lie before byte 1,024 of the state
-in-ring : (s : List ℕ) (base : ℕ) → base ≤ 512 → (from i : ℕ) → loaded s base from i ≡ loaded (take 1024 s) base from i
-in-ring s base h from i = sym (getD-take 1024 s (base + (from + i) % 512) 0 (omega arith))
+in-xy : (s : List ℕ) (side : Side) (i : ℕ) → sideByte s side i ≡ sideByte (take 1024 s) side i
+in-xy s side i =
+    let base : ℕ = cond (side .y) yBase xBase in
+    let low : base ≤ 512 = either (λ n. n ≤ 512) (side .y) (omega arith) (omega arith) in
+    ap (cond (side .zero) 0) (sym (getD-take 1024 s (base + (side .from + i) % 512) 0 (omega (arith, low))))
 
-module _ (s : List ℕ) (base v : ℕ) (low : base ≤ 512) {zero zero′ same same′ : Bool} {first first′ from : ℕ} {r : List ℕ} where
-  pub side-bytes : zero ≡ zero′ → same ≡ same′ → first ≡ first′ → from ≡ first + cond same 0 (64 * v)
-      → r ≡ table (λ i. cond zero 0 (loaded s base from i)) 0 64
-      → r ≡ table (λ i. cond zero′ 0 (loaded (take 1024 s) base (first′ + cond same′ 0 (64 * v)) i)) 0 64
-  side-bytes ez es ef ea er =
-      let offset = ea ∙ (λ t. ef t + cond (es t) 0 (64 * v)) in
-      er ∙ (λ t. table (λ i. cond (ez t) 0 (loaded s base (offset t) i)) 0 64)
-      ∙ table-same _ _ 64 (λ i h. ap (cond zero′ 0) (in-ring s base low (first′ + cond same′ 0 (64 * v)) i))
-
--- 0 for all bytes, or those loaded
-module _ (bytes : ℕ → ℕ) {zero : Bool} {r : List ℕ} where
-  pub all-zero : zero ≡ true → r ≡ table (λ i. 0) 0 64 → r ≡ table (λ i. cond zero 0 (bytes i)) 0 64
-  all-zero t er = er ∙ (λ k. table (λ i. sym (pick-true 0 (bytes i) t) k) 0 64)
-
-  pub all-loaded : zero ≡ false → r ≡ table bytes 0 64 → r ≡ table (λ i. cond zero 0 (bytes i)) 0 64
-  all-loaded n er = er ∙ (λ k. table (λ i. sym (pick-false 0 (bytes i) n) k) 0 64)
-
--- ---- lanes
-
-module _ (f : Format) (bytes : ℕ → ℕ) (lane : ℕ) {words : List ℕ} (ew : words ≡ table (λ l. number (width f) bytes (width f * l)) 0 (lanesIn f)) where
-  pub own-lanes : own ≤ lane → words ≡ sideLanes f bytes lane
-  own-lanes h =
-      ew ∙ (λ i. table (λ l. number (width f) bytes (width f * sym (pick-true l (lane % lanesIn f) (le-leb own lane h)) i)) 0 (lanesIn f))
-
-  pub one-lane : lane < own → {r : List ℕ} → r ≡ table (λ l. getD words (lane % lanesIn f) 0) 0 (lanesIn f) → r ≡ sideLanes f bytes lane
-  one-lane h er =
-      er
-      ∙ (λ i. table (λ l. chosen i) 0 (lanesIn f))
-      ∙ (λ i. table (λ l. number (width f) bytes (width f * sym (pick-false l (lane % lanesIn f) (lt-leb own lane h)) i)) 0 (lanesIn f))
-    where
-      chosen : getD words (lane % lanesIn f) 0 ≡ number (width f) bytes (width f * (lane % lanesIn f))
-      chosen =
-          ap (λ (w : List ℕ). getD w (lane % lanesIn f) 0) ew
-          ∙ at 0 (λ l. number (width f) bytes (width f * l)) (lanesIn f) (lane % lanesIn f) (mod-lt lane (some-lanes f))
-
-used-lt : (f : Format) (lane l : ℕ) → l < lanesIn f → laneUsed (lanesIn f) lane l < lanesIn f
-used-lt f lane l h = by (leb own lane)
-  where
-    by : (b : Bool) → cond b l (lane % lanesIn f) < lanesIn f
-    by true = h
-    by false = mod-lt lane (some-lanes f)
-
--- lane l of a side, of the bytes that its list holds
-pub side-at : (f : Format) (bytes : ℕ → ℕ) (lane l : ℕ) (held lanes : List ℕ) → held ≡ table bytes 0 64 → lanes ≡ sideLanes f (byteAt held) lane → l < lanesIn f
-    → getD lanes l 0 ≡ number (width f) bytes (width f * laneUsed (lanesIn f) lane l)
-side-at f bytes lane l held lanes eh el h =
+-- lane l of a side
+pub side-at : (f : Format) (s : List ℕ) (side : Side) (lanes : List ℕ) → lanes ≡ sideLanes f s side → (l : ℕ) → l < lanesIn f
+    → getD lanes l 0 ≡ number (width f) (sideByte (take 1024 s) side) (width f * laneUsed (lanesIn f) (side .lane) l)
+side-at f s side lanes el l h =
+    let used : ℕ → ℕ = λ k. width f * laneUsed (lanesIn f) (side .lane) k in
     ap (λ (x : List ℕ). getD x l 0) el
-    ∙ at 0 (λ k. number (width f) (byteAt held) (width f * laneUsed (lanesIn f) lane k)) (lanesIn f) l h
-    ∙ number-same (width f) (byteAt held) bytes (width f * used) byte
-  where
-    used : ℕ
-    used = laneUsed (lanesIn f) lane l
-
-    byte : (k : ℕ) → k < width f → byteAt held (width f * used + k) ≡ bytes (width f * used + k)
-    byte k hk =
-        let inside : used * width f + k < lanesIn f * width f = digits-lt (used-lt f lane l h) hk in
-        ap (λ (x : List ℕ). byteAt x (width f * used + k)) eh
-        ∙ at 0 bytes 64 (width f * used + k) (omega (arith, inside, fits f, mul-comm (width f) used))
+    ∙ at 0 (λ k. number (width f) (sideByte s side) (used k)) (lanesIn f) l h
+    ∙ number-same (width f) (sideByte s side) (sideByte (take 1024 s) side) (used l) (λ k hk. in-xy s side (used l + k))
 
 -- ---- the lane that lane l uses
 

@@ -45,10 +45,10 @@ module _ (gen op : ℕ) (s₀ : List ℕ) where
   E = Vecfp.vecfp gen op
 
   -- the vectors before v are done
-  abbrev pub VectorsTo : ℕ → List ℕ → Type 0
+  abbrev VectorsTo : ℕ → List ℕ → Type 0
   VectorsTo v t = Holds b m fit s₀ t (Below E m fit s₀ (v * stride))
 
-  pub vectors-none : length s₀ ≡ 5120 → VectorsTo 0 s₀
+  vectors-none : length s₀ ≡ 5120 → VectorsTo 0 s₀
   vectors-none size =
       subst (λ (n : ℕ). Holds b m fit s₀ s₀ (Below E m fit s₀ n)) (sym (zero-mul stride)) (rows-start E m fit s₀ size)
 
@@ -74,7 +74,7 @@ module _ (gen op : ℕ) (s₀ : List ℕ) where
       true-false
       (sym (among-yes (rowOf gen op v) 1 r (omega (arith, e, row-within gen op v r h h′)) (omega (arith, e, row-within gen op v r h h′))) ∙ f)))
 
-  pub vectors-more : (v : ℕ) (t u : List ℕ) → VectorsTo v t → u ≡ applied (vectorEffect gen op v t) t → VectorsTo (v + 1) u
+  vectors-more : (v : ℕ) (t u : List ℕ) → VectorsTo v t → u ≡ applied (vectorEffect gen op v t) t → VectorsTo (v + 1) u
   unfolding newLane
   vectors-more v t u held eu =
       rows-more E m fit s₀ _ _ false (rowOf gen op v) 1 (v * stride) ((v + 1) * stride) t u
@@ -84,8 +84,25 @@ module _ (gen op : ℕ) (s₀ : List ℕ) where
       held
       (eu ∙ (λ i. applied (oneRow b (rowOf gen op v) (Vecfp.enabled gen op) (Vecfp.result gen op (held .xy i) v)) t))
 
-  pub vectors-all : (v : ℕ) (t : List ℕ) → 64 / stride ≤ v → length s₀ ≡ 5120 → Bytes s₀ → Bytes t → VectorsTo v t → t ≡ applied E s₀
+  vectors-all : (v : ℕ) (t : List ℕ) → 64 / stride ≤ v → length s₀ ≡ 5120 → Bytes s₀ → Bytes t → VectorsTo v t → t ≡ applied E s₀
   vectors-all v t h = rows-end E m fit s₀ (v * stride) t all-rows
     where
       all-rows : 64 ≤ v * Vecint.stride gen op
       all-rows = by-spacing (λ s. 64 / s ≤ v → 64 ≤ v * s) (λ l. omega arith) (λ l. omega arith) (λ l. omega arith) (stride-cases gen op) h
+
+-- what the loop keeps, of so many vectors
+pub record Done (gen op : ℕ) (s₀ : List ℕ) (vectors v : ℕ) (t : List ℕ) : Type 0 where
+  pub most : v ≤ vectors
+  pub held : VectorsTo gen op s₀ v t
+  pub bytes : Bytes t
+
+module _ {gen op : ℕ} {s₀ : List ℕ} {vectors : ℕ} where
+  pub done-none : length s₀ ≡ 5120 → Bytes s₀ → Done gen op s₀ vectors 0 s₀
+  done-none size small = record { most = omega arith; held = vectors-none gen op s₀ size; bytes = small }
+
+  module _ {v : ℕ} {t : List ℕ} (before : Done gen op s₀ vectors v t) where
+    pub done-more : {u : List ℕ} → v < vectors → u ≡ applied (vectorEffect gen op v t) t → Bytes u → Done gen op s₀ vectors (v + 1) u
+    done-more {u} h eu small = record { most = omega arith; held = vectors-more gen op s₀ v t u (before .held) eu; bytes = small }
+
+    pub done-all : vectors ≤ v → vectors ≡ 64 / Vecint.stride gen op → length s₀ ≡ 5120 → Bytes s₀ → t ≡ applied (Vecfp.vecfp gen op) s₀
+    done-all h e size small = vectors-all gen op s₀ v t (subst (λ (n : ℕ). n ≤ v) e h) size small (before .bytes) (before .held)

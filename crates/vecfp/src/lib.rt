@@ -4,67 +4,24 @@ ghost use mathlib.Core.Bool.{cond};
 ghost use Prim.Native.Nat.{_+_, _*_, _/_, _<_, _≤_};
 ghost use lib.Dec.{eqb};
 ghost use lib.Ieee.{binary32, binary64};
-ghost use lib.ListN.{length, take};
-ghost use Rattle.number.specs.Bytes.{byteAt, table};
-ghost use Rattle.isa.specs.State.{xBase, yBase, zBase, registerBytes, loaded};
+ghost use lib.ListN.{length};
+ghost use Rattle.isa.specs.State.{xBase, yBase, registerBytes, loaded};
 ghost use Rattle.isa.specs.Operand.{bit};
 ghost use Rattle.isa.specs.Effect.{applied, count, bytesOn};
 ghost use Rattle.isa.specs.Vecint as Vecint;
 ghost use Rattle.isa.specs.Vecfp as Vecfp;
 ghost use Rattle.masks.specs.Mask.{maskOf};
-ghost use Rattle.vecfp.specs.Vectors.{xLane, yLane, sideLanes, aluLanes, resultLanes, vectorEffect};
+ghost use Rattle.vecfp.specs.Vectors.{xLane, yLane, xSide, ySide, wordsOf, sideLanes, aluLanes, resultLanes, vectorMask, vectorEffect};
 
-// ---- the 64 bytes of X and of Y for vector v, of four at most
+// ---- the sides of a vector
 
-fn offset(first: u64, same: bool, v: usize) -> u64
-    requires { ⌜ (first < 512) × (v < 4) ⌝ }
-    ensures { λ r. ⌜ r ≡ first + cond same 0 (64 * v) ⌝ }
-{
-    if same {
-        return first;
-    }
-    first + 64 * (v as u64)
+// Where the 64 bytes of Y, or of X, begin, whether they are read as 0, and the lane that every lane uses.
+pub struct Side {
+    pub y: bool,
+    pub zero: bool,
+    pub from: u64,
+    pub lane: usize,
 }
-
-// Of Y, or of X, from an offset on; or 0.
-fn side_bytes(state: &[u8], y: bool, zero: bool, from: u64) -> [u8; 64]
-    ensures { λ r. ⌜ r ≡ table (λ i. cond zero 0 (loaded (now (state .entry)) (cond y yBase xBase) from i)) 0 64 ⌝ }
-{
-    if zero {
-        return [0u8; 64];
-    }
-    state::load(state, y, from)
-}
-
-fn x_bytes(state: &[u8], generation: u64, op: u64, v: usize) -> [u8; 64]
-    requires { ⌜ v < 4 ⌝ }
-    ensures { λ r. ⌜ r ≡ table (Vecfp.xBytes generation op (take zBase (now (state .entry))) v) 0 64 ⌝ }
-{
-    let same = operand::broadcasts(generation, op, 2, 6);
-    let from = offset(operand::field(op, 10, 18), same, v);
-    side_bytes(
-        state,
-        false,
-        operand::vecfp_overrides(generation, op, 4, 4),
-        from,
-    )
-}
-
-fn y_bytes(state: &[u8], generation: u64, op: u64, v: usize) -> [u8; 64]
-    requires { ⌜ v < 4 ⌝ }
-    ensures { λ r. ⌜ r ≡ table (Vecfp.yBytes generation op (take zBase (now (state .entry))) v) 0 64 ⌝ }
-{
-    let same = operand::broadcasts(generation, op, 3, 7);
-    let from = offset(operand::field(op, 0, 8), same, v);
-    side_bytes(
-        state,
-        true,
-        operand::vecfp_overrides(generation, op, 5, 5),
-        from,
-    )
-}
-
-// ---- the lane of X and of Y that every lane uses
 
 // No lane has this number: each lane uses its own.
 const OWN: usize = 64;
@@ -93,17 +50,79 @@ fn y_lane(generation: u64, op: u64) -> usize
     OWN
 }
 
+// From one vector to the next, of four at most.
+fn offset(first: u64, same: bool, v: usize) -> u64
+    requires { ⌜ (first < 512) × (v < 4) ⌝ }
+    ensures { λ r. ⌜ r ≡ first + cond same 0 (64 * v) ⌝ }
+{
+    if same {
+        return first;
+    }
+    first + 64 * (v as u64)
+}
+
+fn x_side(generation: u64, op: u64, v: usize) -> Side
+    requires { ⌜ v < 4 ⌝ }
+    ensures { λ r. ⌜ r ≡ xSide generation op v ⌝ }
+{
+    let same = operand::broadcasts(generation, op, 2, 6);
+    Side {
+        y: false,
+        zero: operand::vecfp_overrides(generation, op, 4, 4),
+        from: offset(operand::field(op, 10, 18), same, v),
+        lane: x_lane(generation, op),
+    }
+}
+
+fn y_side(generation: u64, op: u64, v: usize) -> Side
+    requires { ⌜ v < 4 ⌝ }
+    ensures { λ r. ⌜ r ≡ ySide generation op v ⌝ }
+{
+    let same = operand::broadcasts(generation, op, 3, 7);
+    Side {
+        y: true,
+        zero: operand::vecfp_overrides(generation, op, 5, 5),
+        from: offset(operand::field(op, 0, 8), same, v),
+        lane: y_lane(generation, op),
+    }
+}
+
 // ---- singles
 
-// The lanes of 64 bytes, or one of them for every lane.
-fn side32(bytes: &[u8; 64], lane: usize) -> [u32; 16]
-    ensures { λ r. ⌜ r ≡ sideLanes binary32 (byteAt (now (bytes .entry))) lane ⌝ }
+// The lanes of a load.
+fn load32(state: &[u8], y: bool, from: u64) -> [u32; 16]
+    ensures { λ r. ⌜ r ≡ wordsOf binary32 (loaded (now (state .entry)) (cond y yBase xBase) from) ⌝ }
 {
-    let words = state::words32(bytes);
-    if OWN <= lane {
-        return words;
+    let bytes = state::load(state, y, from);
+    state::words32(&bytes)
+}
+
+// The same, with loads that do not reach round the ring told to the compiler, which moves their bytes at once.
+fn loaded32(state: &[u8], y: bool, from: u64) -> [u32; 16]
+    ensures { λ r. ⌜ r ≡ wordsOf binary32 (loaded (now (state .entry)) (cond y yBase xBase) from) ⌝ }
+{
+    let near = from % 512;
+    if 448 < near {
+        return load32(state, y, from);
     }
-    [words[lane % 16]; 16]
+    if state.len() < 1024 {
+        return load32(state, y, from);
+    }
+    load32(state, y, near)
+}
+
+// What the lanes use of a side.
+fn side32(state: &[u8], side: Side) -> [u32; 16]
+    ensures { λ r. ⌜ r ≡ sideLanes binary32 (now (state .entry)) side ⌝ }
+{
+    if side.zero {
+        return [0u32; 16];
+    }
+    if OWN <= side.lane {
+        return loaded32(state, side.y, side.from);
+    }
+    let words = load32(state, side.y, side.from);
+    [words[side.lane % 16]; 16]
 }
 
 fn alu32(mode: u64, x: u32, y: u32, z: u32) -> u32
@@ -131,7 +150,7 @@ fn lanes32(mode: u64, x: &[u32; 16], y: &[u32; 16], z: &[u32; 16]) -> [u32; 16]
     out
 }
 
-// The same, with the mode told to the compiler, which makes a loop for each, and that it can do several lanes at a time.
+// The same, with the mode told to the compiler, which makes a loop for each, and then does several lanes at a time.
 fn by_mode32(mode: u64, x: &[u32; 16], y: &[u32; 16], z: &[u32; 16]) -> [u32; 16]
     ensures { λ r. ⌜ r ≡ aluLanes binary32 mode (now (x .entry)) (now (y .entry)) (now (z .entry)) ⌝ }
 {
@@ -157,34 +176,67 @@ fn results32(generation: u64, op: u64, x: &[u32; 16], y: &[u32; 16], z: &[u32; 1
     by_mode32(operand::alu_mode(op), x, y, z)
 }
 
-// Vector v of singles.
-fn vector32(state: &mut [u8], generation: u64, op: u64, v: usize, mask: u64)
+// Vector v.
+fn vector32(state: &mut [u8], generation: u64, op: u64, v: usize, on: &[bool; 16])
     requires { ⌜ (length (now state) ≡ registerBytes) × (v < 64 / Vecint.stride generation op)
-        × (Vecfp.formatOf op ≡ binary32) × (mask ≡ maskOf (Vecfp.enabled generation op) 64) ⌝ }
+        × (Vecfp.formatOf op ≡ binary32) × (now on ≡ vectorMask binary32 generation op) ⌝ }
     ensures { λ _. ⌜ now (state .exit) ≡ applied (vectorEffect generation op v (now (state .entry))) (now (state .entry)) ⌝ }
 {
-    let on = masks::lanes16(mask);
     let row = operand::vecfp_row(generation, op, v);
-    let xs = x_bytes(state, generation, op, v);
-    let ys = y_bytes(state, generation, op, v);
-    let x = side32(&xs, x_lane(generation, op));
-    let y = side32(&ys, y_lane(generation, op));
+    let x = side32(state, x_side(generation, op, v));
+    let y = side32(state, y_side(generation, op, v));
     let z = state::row32(state, row);
     let out = results32(generation, op, &x, &y, &z);
-    state::put_row32(state, row, &out, &on);
+    state::put_row32(state, row, &out, on);
+}
+
+// All vectors.
+fn vectors32(state: &mut [u8], generation: u64, op: u64, on: &[bool; 16])
+    requires { ⌜ (length (now state) ≡ registerBytes) × (Vecfp.formatOf op ≡ binary32) × (now on ≡ vectorMask binary32 generation op) ⌝ }
+    ensures { λ _. ⌜ now (state .exit) ≡ applied (Vecfp.vecfp generation op) (now (state .entry)) ⌝ }
+{
+    let vectors = operand::vectors(generation, op);
+    for v in 0..vectors {
+        vector32(state, generation, op, v, on);
+    }
 }
 
 // ---- doubles
 
-// The lanes of 64 bytes, or one of them for every lane.
-fn side64(bytes: &[u8; 64], lane: usize) -> [u64; 8]
-    ensures { λ r. ⌜ r ≡ sideLanes binary64 (byteAt (now (bytes .entry))) lane ⌝ }
+// The lanes of a load.
+fn load64(state: &[u8], y: bool, from: u64) -> [u64; 8]
+    ensures { λ r. ⌜ r ≡ wordsOf binary64 (loaded (now (state .entry)) (cond y yBase xBase) from) ⌝ }
 {
-    let words = state::words64(bytes);
-    if OWN <= lane {
-        return words;
+    let bytes = state::load(state, y, from);
+    state::words64(&bytes)
+}
+
+// The same, with loads that do not reach round the ring told to the compiler, which moves their bytes at once.
+fn loaded64(state: &[u8], y: bool, from: u64) -> [u64; 8]
+    ensures { λ r. ⌜ r ≡ wordsOf binary64 (loaded (now (state .entry)) (cond y yBase xBase) from) ⌝ }
+{
+    let near = from % 512;
+    if 448 < near {
+        return load64(state, y, from);
     }
-    [words[lane % 8]; 8]
+    if state.len() < 1024 {
+        return load64(state, y, from);
+    }
+    load64(state, y, near)
+}
+
+// What the lanes use of a side.
+fn side64(state: &[u8], side: Side) -> [u64; 8]
+    ensures { λ r. ⌜ r ≡ sideLanes binary64 (now (state .entry)) side ⌝ }
+{
+    if side.zero {
+        return [0u64; 8];
+    }
+    if OWN <= side.lane {
+        return loaded64(state, side.y, side.from);
+    }
+    let words = load64(state, side.y, side.from);
+    [words[side.lane % 8]; 8]
 }
 
 fn alu64(mode: u64, x: u64, y: u64, z: u64) -> u64
@@ -238,44 +290,44 @@ fn results64(generation: u64, op: u64, x: &[u64; 8], y: &[u64; 8], z: &[u64; 8])
     by_mode64(operand::alu_mode(op), x, y, z)
 }
 
-// Vector v of doubles.
-fn vector64(state: &mut [u8], generation: u64, op: u64, v: usize, mask: u64)
+// Vector v.
+fn vector64(state: &mut [u8], generation: u64, op: u64, v: usize, on: &[bool; 8])
     requires { ⌜ (length (now state) ≡ registerBytes) × (v < 64 / Vecint.stride generation op)
-        × (Vecfp.formatOf op ≡ binary64) × (mask ≡ maskOf (Vecfp.enabled generation op) 64) ⌝ }
+        × (Vecfp.formatOf op ≡ binary64) × (now on ≡ vectorMask binary64 generation op) ⌝ }
     ensures { λ _. ⌜ now (state .exit) ≡ applied (vectorEffect generation op v (now (state .entry))) (now (state .entry)) ⌝ }
 {
-    let on = masks::lanes8(mask);
     let row = operand::vecfp_row(generation, op, v);
-    let xs = x_bytes(state, generation, op, v);
-    let ys = y_bytes(state, generation, op, v);
-    let x = side64(&xs, x_lane(generation, op));
-    let y = side64(&ys, y_lane(generation, op));
+    let x = side64(state, x_side(generation, op, v));
+    let y = side64(state, y_side(generation, op, v));
     let z = state::row64(state, row);
     let out = results64(generation, op, &x, &y, &z);
-    state::put_row64(state, row, &out, &on);
+    state::put_row64(state, row, &out, on);
 }
 
-// ---- vectors
-
-fn vector(state: &mut [u8], generation: u64, op: u64, v: usize, mask: u64)
-    requires { ⌜ (length (now state) ≡ registerBytes) × (v < 64 / Vecint.stride generation op) × (mask ≡ maskOf (Vecfp.enabled generation op) 64) ⌝ }
-    ensures { λ _. ⌜ now (state .exit) ≡ applied (vectorEffect generation op v (now (state .entry))) (now (state .entry)) ⌝ }
+// All vectors.
+fn vectors64(state: &mut [u8], generation: u64, op: u64, on: &[bool; 8])
+    requires { ⌜ (length (now state) ≡ registerBytes) × (Vecfp.formatOf op ≡ binary64) × (now on ≡ vectorMask binary64 generation op) ⌝ }
+    ensures { λ _. ⌜ now (state .exit) ≡ applied (Vecfp.vecfp generation op) (now (state .entry)) ⌝ }
 {
-    if operand::single(op) {
-        vector32(state, generation, op, v, mask);
-        return;
+    let vectors = operand::vectors(generation, op);
+    for v in 0..vectors {
+        vector64(state, generation, op, v, on);
     }
-    vector64(state, generation, op, v, mask);
 }
+
+// ---- the step
 
 fn each_vector(state: &mut [u8], generation: u64, op: u64, mask: u64)
     requires { ⌜ (length (now state) ≡ registerBytes) × (mask ≡ maskOf (Vecfp.enabled generation op) 64) ⌝ }
     ensures { λ _. ⌜ now (state .exit) ≡ applied (Vecfp.vecfp generation op) (now (state .entry)) ⌝ }
 {
-    let vectors = operand::vectors(generation, op);
-    for v in 0..vectors {
-        vector(state, generation, op, v, mask);
+    if operand::single(op) {
+        let on = masks::lanes16(mask);
+        vectors32(state, generation, op, &on);
+        return;
     }
+    let on = masks::lanes8(mask);
+    vectors64(state, generation, op, &on);
 }
 
 // The bytes of a vector's enabled lanes.

@@ -1,76 +1,64 @@
-use mathlib.Core.Path.{sym, _∙_, subst}
-use Prim.Native.Nat.{ℕ, _<_, _≤_, _-_}
 use native.Mathlib.Omega.{arith}
+use Rattle.isa.specs.Vecfp as Vecfp
+use Rattle.masks.proofs.Lanes.{lanes-of-rule}
+use Rattle.operand.proofs.Formats.{format-single, format-double}
 use borrow.Author.Needs.{needs}
-use Rattle.state.proofs.Holds.{Bytes}
-use Rattle.vecfp.proofs.VectorsLoop.{VectorsTo, vectors-none, vectors-more, vectors-all}
 use Rattle.vecfp.proofs.each_vector.Statement.{statement}
 use Rattle.vecfp.proofs.each_vector.Tie as tie
 
-abbrev Inv-loop : tie.InvT-loop
-Inv-loop state₀ generation op mask vectors v₀ state v = (v ≤ vectors) × VectorsTo generation op state₀ v state × Bytes state
+single-requires : tie.Need-single-requires
+single-requires c κs = search needs
 
-abbrev μ-loop : tie.MeasureT-loop
-μ-loop state₀ generation op mask vectors v₀ state v = vectors - v
+lanes16-requires : tie.Need-lanes16-requires
+lanes16-requires c κs = search needs
 
-vectors-requires : tie.Need-vectors-requires Inv-loop μ-loop
-vectors-requires c κs = search needs
-
-loop-holds : tie.Need-loop-holds Inv-loop μ-loop
-loop-holds c =
-    let start = c .before .before in
-    let a = start .args in
-    (omega arith, vectors-none (a .generation) (a .op) (a .state .now) (start .pre .0), λ p. c .before .slice-known .given p .fits)
-
-vector-requires : tie.Need-vector-requires Inv-loop μ-loop
-vector-requires c κs =
-    let turn = c .before .before in
-    let vectors = turn .before in
-    let pre = vectors .before .before .pre in
-    (turn .loop .inv .1 .size, subst (λ (n : ℕ). turn .loop .v < n) (vectors .vectors .ensures .0) (c .before .loop-test .taken), pre .1)
-
-add-v : tie.Need-add-v Inv-loop μ-loop
-add-v c = search needs
-
-loop-less : tie.Need-loop-less Inv-loop μ-loop
-loop-less c = search needs
-
-loop-again : tie.Need-loop-again Inv-loop μ-loop
-loop-again c =
-    let done = c .before .before in
-    let turn = done .before .before .before in
-    let a = turn .before .before .before .args in (
-      omega arith,
-      vectors-more (a .generation) (a .op) (a .state .now) (turn .loop .v) (turn .loop .state) (done .vector .last .0) (turn .loop .inv .1) (done .vector .ensures),
-      λ p. c .slice-known2 .given p .fits,
+vectors32-requires : tie.Need-vectors32-requires
+vectors32-requires c κs =
+    let on = c .before .before in
+    let single = on .before .before in
+    let start = single .before .before in
+    let a = start .args in (
+      start .pre .0,
+      format-single (a .op) (single .single .ensures) (on .before .if1 .taken),
+      lanes-of-rule (Vecfp.enabled (a .generation) (a .op)) 64 16 (a .mask) _ (omega arith) (start .pre .1) (on .lanes16 .ensures),
     )
 
-same-length : tie.Need-same-length Inv-loop μ-loop
-same-length c =
-    let turn = c .before in
-    turn .loop .inv .1 .size ∙ sym (turn .before .before .before .pre .0)
+same-length : tie.Need-same-length
+same-length c = search needs
 
-returns : tie.Need-returns Inv-loop μ-loop
-returns c =
-    let turn = c .before in
-    let vectors = turn .before in
-    let start = vectors .before .before in
-    let a = start .args in
-    let all = subst (λ (n : ℕ). n ≤ turn .loop .v) (vectors .vectors .ensures .0) (c .loop-test .left) in
-    vectors-all (a .generation) (a .op) (a .state .now) (turn .loop .v) (turn .loop .state) all (start .pre .0)
-    (λ p. vectors .before .slice-known .given p .fits) (turn .loop .inv .2) (turn .loop .inv .1)
+returns : tie.Need-returns
+returns c = search needs
+
+lanes8-requires : tie.Need-lanes8-requires
+lanes8-requires c κs = search needs
+
+vectors64-requires : tie.Need-vectors64-requires
+vectors64-requires c κs =
+    let on = c .before .before in
+    let single = on .before .before in
+    let start = single .before .before in
+    let a = start .args in (
+      start .pre .0,
+      format-double (a .op) (single .single .ensures) (on .before .if1 .left),
+      lanes-of-rule (Vecfp.enabled (a .generation) (a .op)) 64 8 (a .mask) _ (omega arith) (start .pre .1) (on .lanes8 .ensures),
+    )
+
+same-length-2 : tie.Need-same-length-2
+same-length-2 c = search needs
+
+returns-2 : tie.Need-returns-2
+returns-2 c = search needs
 
 pub each-vector-spec : {M : Type 1} → statement M
 each-vector-spec =
     tie.close
     (tie.spec
-    Inv-loop
-    μ-loop
-    vectors-requires
-    loop-holds
-    vector-requires
-    add-v
-    loop-less
-    loop-again
+    single-requires
+    lanes16-requires
+    vectors32-requires
     same-length
-    returns)
+    returns
+    lanes8-requires
+    vectors64-requires
+    same-length-2
+    returns-2)
