@@ -4,7 +4,7 @@ use mathlib.Core.Path.{_≡_, refl, sym, ap, _∙_}
 use mathlib.Core.Bool.{Bool, true, false, cond, not, _&&_}
 use mathlib.Core.List.{List}
 use Prim.Native.Nat.{ℕ, zero, suc, _+_, _*_, _%_, _≤_, _<_}
-use native.Mathlib.Nat.{zero-add, zero-mod, mod-lt, mod-add-mod, mul-comm}
+use native.Mathlib.Nat.{zero-add, zero-mod, mod-lt, mul-comm}
 use native.Mathlib.Omega.{arith}
 use lib.Arith.{digits-lt}
 use lib.Dec.{eqb, leb}
@@ -55,10 +55,6 @@ module _ (f : Format) (s : List ℕ) (base from : ℕ) where
 
   pub load-words : {bytes r : List ℕ} → bytes ≡ table (loaded s base from) 0 64 → r ≡ wordsOf f (byteAt bytes) → r ≡ wordsOf f (loaded s base from)
   load-words {bytes} eb er = er ∙ table-same _ _ (lanesIn f) (held-word bytes eb)
-
-  -- the offset may be taken round the ring first
-  pub near-words : {r : List ℕ} → r ≡ wordsOf f (loaded s base (from % 512)) → r ≡ wordsOf f (loaded s base from)
-  near-words er = er ∙ (λ t. wordsOf f (λ i. byteAt s (base + mod-add-mod from 512 i t)))
 
 -- ---- a side
 

@@ -97,20 +97,6 @@ fn load32(state: &[u8], y: bool, from: u64) -> [u32; 16]
     state::words32(&bytes)
 }
 
-// The same, with loads that do not reach round the ring told to the compiler, which moves their bytes at once.
-fn loaded32(state: &[u8], y: bool, from: u64) -> [u32; 16]
-    ensures { λ r. ⌜ r ≡ wordsOf binary32 (loaded (now (state .entry)) (cond y yBase xBase) from) ⌝ }
-{
-    let near = from % 512;
-    if 448 < near {
-        return load32(state, y, from);
-    }
-    if state.len() < 1024 {
-        return load32(state, y, from);
-    }
-    load32(state, y, near)
-}
-
 // What the lanes use of a side.
 fn side32(state: &[u8], side: Side) -> [u32; 16]
     ensures { λ r. ⌜ r ≡ sideLanes binary32 (now (state .entry)) side ⌝ }
@@ -118,10 +104,10 @@ fn side32(state: &[u8], side: Side) -> [u32; 16]
     if side.zero {
         return [0u32; 16];
     }
-    if OWN <= side.lane {
-        return loaded32(state, side.y, side.from);
-    }
     let words = load32(state, side.y, side.from);
+    if OWN <= side.lane {
+        return words;
+    }
     [words[side.lane % 16]; 16]
 }
 
@@ -211,20 +197,6 @@ fn load64(state: &[u8], y: bool, from: u64) -> [u64; 8]
     state::words64(&bytes)
 }
 
-// The same, with loads that do not reach round the ring told to the compiler, which moves their bytes at once.
-fn loaded64(state: &[u8], y: bool, from: u64) -> [u64; 8]
-    ensures { λ r. ⌜ r ≡ wordsOf binary64 (loaded (now (state .entry)) (cond y yBase xBase) from) ⌝ }
-{
-    let near = from % 512;
-    if 448 < near {
-        return load64(state, y, from);
-    }
-    if state.len() < 1024 {
-        return load64(state, y, from);
-    }
-    load64(state, y, near)
-}
-
 // What the lanes use of a side.
 fn side64(state: &[u8], side: Side) -> [u64; 8]
     ensures { λ r. ⌜ r ≡ sideLanes binary64 (now (state .entry)) side ⌝ }
@@ -232,10 +204,10 @@ fn side64(state: &[u8], side: Side) -> [u64; 8]
     if side.zero {
         return [0u64; 8];
     }
-    if OWN <= side.lane {
-        return loaded64(state, side.y, side.from);
-    }
     let words = load64(state, side.y, side.from);
+    if OWN <= side.lane {
+        return words;
+    }
     [words[side.lane % 8]; 8]
 }
 

@@ -12,18 +12,15 @@ returns c =
     let a = c .before .before .args in
     side-zero binary32 (a .state .now) (a .side) (c .if1 .taken) refl
 
-loaded32-requires : tie.Need-loaded32-requires
-loaded32-requires c κs = search needs
+load32-requires : tie.Need-load32-requires
+load32-requires c κs = search needs
 
 returns-2 : tie.Need-returns-2
 returns-2 c =
-    let own = c .before in
-    let some = own .before .before in
+    let words = c .before .before in
+    let some = words .before in
     let a = some .before .before .args in
-    side-own binary32 (a .state .now) (a .side) (some .if1 .left) (own .if2 .taken) (c .loaded32 .ensures)
-
-load32-requires : tie.Need-load32-requires
-load32-requires c κs = search needs
+    side-own binary32 (a .state .now) (a .side) (some .if1 .left) (c .if2 .taken) (words .load32 .ensures)
 
 mul-result : tie.Need-mul-result
 mul-result c = search needs
@@ -34,19 +31,11 @@ array-read-result c = search needs
 returns-3 : tie.Need-returns-3
 unfolding table
 returns-3 c =
-    let words = c .before in
-    let some = words .before .before .before in
+    let words = c .before .before .before in
+    let some = words .before in
     let a = some .before .before .args in
-    side-one binary32 (a .state .now) (a .side) (some .if1 .left) (words .before .if2 .left) _ (words .load32 .ensures) refl
+    side-one binary32 (a .state .now) (a .side) (some .if1 .left) (c .before .if2 .left) _ (words .load32 .ensures) refl
 
 pub side32-spec : {M : Type 1} → statement M
 side32-spec =
-    tie.close
-    (tie.spec
-    returns
-    loaded32-requires
-    returns-2
-    load32-requires
-    mul-result
-    array-read-result
-    returns-3)
+    tie.close (tie.spec returns load32-requires returns-2 mul-result array-read-result returns-3)
