@@ -15,13 +15,6 @@ use lib.Ieee.Nearest.{nearest-ge}
 use borrow.Author.Tests.{ltb-true, ltb-false}
 use Rattle.float.specs.Floats.{closest}
 
-pub lt-or-le : (a b : ℕ) → (a < b) ⊎ (b ≤ a)
-lt-or-le a b = by (ltb a b) refl
-  where
-    by : (t : Bool) → ltb a b ≡ t → (a < b) ⊎ (b ≤ a)
-    by true e = inl (ltb-true a b e)
-    by false e = inr (ltb-false a b e)
-
 -- how many digits of the whole part of n / 2 ^ j are dropped
 abbrev pub drops : Format → ℕ → ℕ → ℕ
 drops f n j = size (n / 2 ^ j) - prec f

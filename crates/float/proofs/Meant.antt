@@ -20,7 +20,7 @@ use borrow.Author.Tests.{lt-ltb, le-ltb, ne-eqb}
 use Rattle.float.specs.Floats as Floats
 use Rattle.float.specs.Floats.{Value, notNumber, infinite, finite, ofParts, valueOf, opposite, atMostZero}
 use Rattle.float.specs.Floats.{withSign, infinity, defaultNan, rounded, plus, times}
-use Rattle.float.proofs.Digits.{lt-or-le}
+use Rattle.number.proofs.Tests.{lt-or-le}
 use Rattle.float.proofs.Rounded.{round-bits}
 
 -- ---- a pattern's value

@@ -16,7 +16,8 @@ use lib.Ieee.Fits.{down-pos, round-is}
 use lib.Ieee.Nearest.{closest-same, div-same}
 use borrow.Author.Tests.{le-ltb}
 use Rattle.float.specs.Floats.{withSign, infinity, closest, rounded}
-use Rattle.float.proofs.Digits.{lt-or-le, drops, leads, fits}
+use Rattle.float.proofs.Digits.{drops, leads, fits}
+use Rattle.number.proofs.Tests.{lt-or-le}
 
 -- ---- a value's pattern, by its whole number
 

@@ -6,7 +6,7 @@ ghost use lib.Dec.{eqb};
 ghost use lib.Ieee.{binary64};
 ghost use lib.ListN.{length, getD};
 ghost use Rattle.number.specs.Bytes.{number, table};
-ghost use Rattle.float.specs.Floats.{subtracted, negated};
+ghost use Rattle.float.specs.Floats.{negated};
 ghost use Rattle.isa.specs.State.{registerBytes, xBase, yBase, loaded};
 ghost use Rattle.isa.specs.Effect.{applied, bytesOn};
 ghost use Rattle.isa.specs.Fms64 as Fms64;
@@ -14,17 +14,7 @@ ghost use Rattle.state.specs.Rows.{oneRow};
 ghost use Rattle.masks.specs.Mask.{maskOf};
 ghost use Rattle.fms64.specs.Terms.{termsOf, lessRow, lessMatrix, keepsZ};
 
-// ---- a row, with one operation to a loop
-
-fn differences(zs: &[u64; 8], ts: &[u64; 8]) -> [u64; 8]
-    ensures { λ r. ⌜ r ≡ table (λ l. subtracted binary64 (getD (now (zs .entry)) l 0) (getD (now (ts .entry)) l 0)) 0 8 ⌝ }
-{
-    let mut out = [0u64; 8];
-    for l in 0..8 {
-        out[l] = float::sub64(zs[l], ts[l]);
-    }
-    out
-}
+// ---- a row
 
 fn negatives(ts: &[u64; 8]) -> [u64; 8]
     ensures { λ r. ⌜ r ≡ table (λ l. negated binary64 (getD (now (ts .entry)) l 0)) 0 8 ⌝ }
@@ -47,7 +37,7 @@ fn less_row(state: &mut [u8], row: usize, ts: &[u64; 8], on: &[bool; 8], skipz: 
         return;
     }
     let zs = state::row64(state, row);
-    let values = differences(&zs, ts);
+    let values = float::differences64(&zs, ts);
     state::put_row64(state, row, &values, on);
 }
 

@@ -25,8 +25,8 @@ returns c =
 row64-requires : tie.Need-row64-requires
 row64-requires c κs = search needs
 
-differences-requires : tie.Need-differences-requires
-differences-requires c κs = search needs
+differences64-requires : tie.Need-differences64-requires
+differences64-requires c κs = search needs
 
 put-row64-requires-2 : tie.Need-put-row64-requires-2
 put-row64-requires-2 c κs = search needs
@@ -42,9 +42,9 @@ returns-2 c =
     let left = zs .before .before in
     let start = left .before .before in
     let a = start .args in
-    subtracted-row (a .row) (a .ts .now) (a .on .now) (a .state .now) (put .put-row642 .last .0) (values .differences .result) (start .pre .0)
+    subtracted-row (a .row) (a .ts .now) (a .on .now) (a .state .now) (put .put-row642 .last .0) (values .differences64 .result) (start .pre .0)
     (λ p. left .before .slice-known .given p .fits) (start .pre .1) (put .put-row642 .ensures) (a .skipz) (left .if1 .left)
-    (zs .row64 .result) (zs .row64 .ensures) (values .differences .ensures)
+    (zs .row64 .result) (zs .row64 .ensures) (values .differences64 .ensures)
 
 pub less-row-spec : {M : Type 1} → statement M
 less-row-spec =
@@ -55,7 +55,7 @@ less-row-spec =
     same-length
     returns
     row64-requires
-    differences-requires
+    differences64-requires
     put-row64-requires-2
     same-length-2
     returns-2)
