@@ -104,10 +104,10 @@ fn side32(state: &[u8], side: Side) -> [u32; 16]
     if side.zero {
         return [0u32; 16];
     }
-    let words = load32(state, side.y, side.from);
     if OWN <= side.lane {
-        return words;
+        return load32(state, side.y, side.from);
     }
+    let words = load32(state, side.y, side.from);
     [words[side.lane % 16]; 16]
 }
 
@@ -204,10 +204,10 @@ fn side64(state: &[u8], side: Side) -> [u64; 8]
     if side.zero {
         return [0u64; 8];
     }
-    let words = load64(state, side.y, side.from);
     if OWN <= side.lane {
-        return words;
+        return load64(state, side.y, side.from);
     }
+    let words = load64(state, side.y, side.from);
     [words[side.lane % 8]; 8]
 }
 

@@ -1,6 +1,6 @@
 use lib.Ieee.{binary64}
 use Rattle.operand.proofs.Rows.{few-vectors}
-use Rattle.vecfp.proofs.Vectors.{Made, vector-meant}
+use Rattle.vecfp.proofs.Vectors.{vector-meant}
 use borrow.Author.Needs.{needs}
 use Rattle.vecfp.proofs.vector64.Statement.{statement}
 use Rattle.vecfp.proofs.vector64.Tie as tie
