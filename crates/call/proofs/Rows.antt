@@ -13,7 +13,7 @@ use Rattle.isa.specs.declared.Reason.the-variants.{ReservedBits, ReservedMode, 
 use Rattle.isa.specs.declared.Refusal.the-variants as refusal
 use Rattle.isa.specs.declared.Answer.{Answer}
 use Rattle.isa.specs.declared.Answer.the-variants.{Done, NoOp, Refused}
-use Rattle.isa.specs.State.{stateLength, lastCount}
+use Rattle.isa.specs.State.{lastCount}
 use Rattle.isa.specs.Effect.{bytesOn}
 use Rattle.isa.specs.Operand.{bits, bit}
 use Rattle.isa.specs.Vecint as Vecint
@@ -179,6 +179,21 @@ module _ (n count serial i gen op : ℕ) where
       first-asked below due =
           sym (past-known ∙ pick-false _ _ (ne-eqb count lastCount below) ∙ pick-false _ _ (ap not (eq-eqb serial count due)))
 
+-- ---- the rows by the call alone
+
+module _ (i gen op : ℕ) where
+  abbrev pub Own : Answer
+  Own = firstOf (ownRows (call i gen op)) (Done 0)
+
+  pub own-generation : not (eqb gen 1 || eqb gen 2) ≡ true → Refused refusal.Generation ≡ Own
+  own-generation f = sym (pick-true _ _ f)
+
+  pub own-instruction : not (eqb gen 1 || eqb gen 2) ≡ false → otherNumber i ≡ true → Refused refusal.Instruction ≡ Own
+  own-instruction f g = sym (pick-false _ _ f ∙ pick-true _ _ g)
+
+  pub own-asked : not (eqb gen 1 || eqb gen 2) ≡ false → otherNumber i ≡ false → askedAnswer gen op i ≡ Own
+  own-asked f g = sym (pick-false _ _ f ∙ pick-false _ _ g)
+
 -- ---- what the normal operand is answered
 
 -- the count of a done step is not looked at
@@ -190,9 +205,8 @@ any-count (r ∷ rows) m n op = picked (firstOf rows (Done m)) (firstOf rows (Do
     picked a b true e = refl
     picked a b false e = e
 
--- a is what the table gives for the first step on a state, which neither the state nor the serial refuses; b is what is made of it
-pub normal-by : (i gen op : ℕ) (a b : Answer) → a ≡ Given stateLength 0 0 i gen op → a ≡ b
-    → instead b (normalOperand (call i gen op)) ≡ normalOf (call i gen op)
+-- a is what the call's own rows give; b is what is made of it
+pub normal-by : (i gen op : ℕ) (a b : Answer) → a ≡ Own i gen op → a ≡ b → instead b (normalOperand (call i gen op)) ≡ normalOf (call i gen op)
 unfolding normalOf ownAnswer
 normal-by i gen op a b e f =
     ap (λ (x : Answer). instead x (normalOperand (call i gen op))) (sym f ∙ e)

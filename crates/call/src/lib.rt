@@ -7,7 +7,7 @@ ghost use Rattle.isa.specs.Operand.{bit, cleared};
 ghost use Rattle.isa.specs.Vecint as Vecint;
 ghost use Rattle.isa.specs.Vecfp as Vecfp;
 ghost use Rattle.isa.specs.Call.{call, instructionBy};
-ghost use Rattle.isa.specs.Answers.{laterMode, aluRows, vecintRows, vecfpRows, fms64Rows, askedBy, isOther, rowsAbove, firstOf};
+ghost use Rattle.isa.specs.Answers.{laterMode, aluRows, vecintRows, vecfpRows, fms64Rows, askedBy, isOther, rowsAbove, ownRows, firstOf};
 ghost use Rattle.isa.specs.Normal.{ignoredByAll, mac16Ignored, ignoredAlways, ignoredByVectors, ignoredByMode, ignoredByLoad, ignoredByRows};
 ghost use Rattle.isa.specs.Normal.{vecintIgnored, vecfpAlways, vecfpIgnored, fms64Ignored, clearedAll, normalOperand, normalOf};
 
@@ -194,7 +194,8 @@ fn is_other(instruction: u64) -> bool
     instruction != 11
 }
 
-// The first row of the table that applies, for a state of so many bytes with this count; 0 bytes where the step is done.
+// The first row of the table that applies, for a state of so many bytes with this count; 0 bytes where the step is done. Integer steps do not go
+// through the rows of all instructions: the compiler keeps those a call.
 pub fn answered(
     length: usize,
     count: u64,
@@ -219,6 +220,25 @@ pub fn answered(
     }
     if serial != count {
         return isa::Answer::Refused(isa::Refusal::Serial);
+    }
+    if instruction == 14 {
+        return isa::Answer::Done { bytes: 0 };
+    }
+    if instruction == 18 {
+        return vecint_answered(generation, operand);
+    }
+    asked(instruction, generation, operand)
+}
+
+// The same where neither the state nor the serial refuses.
+fn own_answered(instruction: u64, generation: u64, operand: u64) -> isa::Answer
+    ensures { λ r. ⌜ r ≡ firstOf (ownRows (call instruction generation operand)) (Done 0) ⌝ }
+{
+    if neither(generation, 1, 2) {
+        return isa::Answer::Refused(isa::Refusal::Generation);
+    }
+    if is_other(instruction) {
+        return isa::Answer::Refused(isa::Refusal::Instruction);
     }
     asked(instruction, generation, operand)
 }
@@ -381,11 +401,11 @@ fn normal_operand(instruction: u64, generation: u64, op: u64) -> u64
     op
 }
 
-// The operand with its ignored bits cleared, or the step's own answer where the step isn't done: that of the first step on a state.
+// The operand with its ignored bits cleared, or the step's own answer where the step isn't done.
 pub fn normal(instruction: u64, generation: u64, operand: u64) -> isa::Normal
     ensures { λ r. ⌜ r ≡ normalOf (call instruction generation operand) ⌝ }
 {
-    match answered(5128, 0, instruction, generation, operand, 0) {
+    match own_answered(instruction, generation, operand) {
         isa::Answer::Done { bytes: _ } => isa::Normal::Operand(normal_operand(
             instruction,
             generation,

@@ -1,5 +1,5 @@
-use mathlib.Core.Path.{sym, _∙_}
-use Rattle.call.proofs.Rows.{first-length, first-generation, first-instruction, first-last, first-serial, first-asked}
+use mathlib.Core.Path.{sym, ap, _∙_}
+use Rattle.call.proofs.Rows.{first-length, first-generation, first-instruction, first-last, first-serial, first-asked, askedAnswer}
 use borrow.Author.Needs.{needs}
 use Rattle.call.proofs.answered.Statement.{statement}
 use Rattle.call.proofs.answered.Tie as tie
@@ -53,12 +53,45 @@ returns-5 c =
     (sym (instruction .before .is-other .ensures) ∙ instruction .if3 .left)
     (last .if4 .left) (c .if5 .taken)
 
-asked-requires : tie.Need-asked-requires
-asked-requires c κs = search needs
-
 returns-6 : tie.Need-returns-6
 returns-6 c =
     let serial = c .before in
+    let last = serial .before in
+    let instruction = last .before in
+    let generation = instruction .before .before in
+    let length = generation .before .before in
+    let a = length .before .args in
+    sym (ap (askedAnswer (a .generation) (a .operand)) (c .if6 .taken))
+    ∙ first-asked (a .length) (a .count) (a .serial) (a .instruction) (a .generation) (a .operand) (length .if1 .left)
+    (sym (generation .before .neither .ensures) ∙ generation .if2 .left)
+    (sym (instruction .before .is-other .ensures) ∙ instruction .if3 .left)
+    (last .if4 .left) (serial .if5 .left)
+
+vecint-answered-requires : tie.Need-vecint-answered-requires
+vecint-answered-requires c κs = search needs
+
+returns-7 : tie.Need-returns-7
+returns-7 c =
+    let vecint = c .before in
+    let serial = vecint .before .before in
+    let last = serial .before in
+    let instruction = last .before in
+    let generation = instruction .before .before in
+    let length = generation .before .before in
+    let a = length .before .args in
+    c .vecint-answered .ensures
+    ∙ sym (ap (askedAnswer (a .generation) (a .operand)) (vecint .if7 .taken))
+    ∙ first-asked (a .length) (a .count) (a .serial) (a .instruction) (a .generation) (a .operand) (length .if1 .left)
+    (sym (generation .before .neither .ensures) ∙ generation .if2 .left)
+    (sym (instruction .before .is-other .ensures) ∙ instruction .if3 .left)
+    (last .if4 .left) (serial .if5 .left)
+
+asked-requires : tie.Need-asked-requires
+asked-requires c κs = search needs
+
+returns-8 : tie.Need-returns-8
+returns-8 c =
+    let serial = c .before .before .before in
     let last = serial .before in
     let instruction = last .before in
     let generation = instruction .before .before in
@@ -81,5 +114,8 @@ answered-spec =
     returns-3
     returns-4
     returns-5
+    returns-6
+    vecint-answered-requires
+    returns-7
     asked-requires
-    returns-6)
+    returns-8)
