@@ -37,7 +37,7 @@ fn less_row(state: &mut [u8], row: usize, ts: &[u64; 8], on: &[bool; 8], skipz: 
         return;
     }
     let zs = state::row64(state, row);
-    let values = float::differences64(&zs, ts);
+    let values = lanes::differences64(&zs, ts);
     state::put_row64(state, row, &values, on);
 }
 

@@ -10,7 +10,7 @@ use borrow.Author.Tests.{eq-eqb, ne-eqb}
 use Rattle.number.specs.Bytes.{table}
 use Rattle.number.proofs.Tests.{pick-true, pick-false}
 use Rattle.float.specs.Floats.{added, multiplied, selected}
-use Rattle.float.specs.Lanes.{each}
+use Rattle.lanes.specs.Lanes.{each}
 use Rattle.isa.specs.Vecint as Vecint
 use Rattle.isa.specs.Vecfp as Vecfp
 use Rattle.vecfp.specs.Vectors.{lanesIn, aluLanes, resultLanes}

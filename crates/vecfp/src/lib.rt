@@ -116,15 +116,15 @@ fn by_mode32(mode: u64, x: &[u32; 16], y: &[u32; 16], z: &[u32; 16]) -> [u32; 16
     ensures { λ r. ⌜ r ≡ aluLanes binary32 mode (now (x .entry)) (now (y .entry)) (now (z .entry)) ⌝ }
 {
     if mode == 4 {
-        return float::choices32(x, y);
+        return lanes::choices32(x, y);
     }
     if mode == 10 {
-        return float::products32(x, y);
+        return lanes::products32(x, y);
     }
     if mode == 11 {
-        return float::sums32(z, x);
+        return lanes::sums32(z, x);
     }
-    float::sums32(z, y)
+    lanes::sums32(z, y)
 }
 
 // What the lanes receive, which is 0 where an override forces it.
@@ -191,15 +191,15 @@ fn by_mode64(mode: u64, x: &[u64; 8], y: &[u64; 8], z: &[u64; 8]) -> [u64; 8]
     ensures { λ r. ⌜ r ≡ aluLanes binary64 mode (now (x .entry)) (now (y .entry)) (now (z .entry)) ⌝ }
 {
     if mode == 4 {
-        return float::choices64(x, y);
+        return lanes::choices64(x, y);
     }
     if mode == 10 {
-        return float::products64(x, y);
+        return lanes::products64(x, y);
     }
     if mode == 11 {
-        return float::sums64(z, x);
+        return lanes::sums64(z, x);
     }
-    float::sums64(z, y)
+    lanes::sums64(z, y)
 }
 
 // What the lanes receive, which is 0 where an override forces it.
