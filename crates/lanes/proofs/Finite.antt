@@ -8,7 +8,8 @@ use Prim.Native.Nat.{ℕ, zero, suc, _+_, _-_, _*_, _/_, _%_, _^_, _≤_, _<_}
 use native.Mathlib.Nat.{div-lt-iff-lt-mul, not-suc-le-zero}
 use native.Mathlib.Omega.{arith}
 use lib.Dec.{T, eqb, ltb}
-use lib.Ieee.{Float, nan, inf, fin, Format, binary32, binary64, prec, emax, low, hid, ones, top, odd, units, round, sum, isNan, nanBits, ofBits, add, sub, mul, neg}
+use lib.Ieee.{Float, nan, inf, fin, Format, binary32, binary64, prec, emax, low, hid, ones, top}
+use lib.Ieee.{odd, units, round, sum, isNan, nanBits, ofBits, add, sub, mul, neg}
 use lib.Ieee.Exact.{HasValue}
 use lib.ListN.{getD}
 use borrow.Author.Tests.{ne-eqb}

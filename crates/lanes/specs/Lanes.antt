@@ -4,7 +4,6 @@ use mathlib.Core.List.{List}
 use Prim.Native.Nat.{ℕ, _%_, _<_}
 use lib.Ieee.{Format, top}
 use lib.ListN.{getD}
-use Rattle.number.specs.Bytes.{table}
 use Rattle.float.specs.Floats.{infinity}
 
 -- neither infinite nor a NaN
@@ -15,6 +14,6 @@ Finite f a = a % top f < infinity f
 abbrev pub AllFinite : Format → List ℕ → ℕ → Type 0
 AllFinite f xs n = (l : ℕ) → l < n → Finite f (getD xs l 0)
 
--- an operation on the patterns of two lists, one after the other
+-- an operation on the patterns of two lists, lane by lane
 abbrev pub each : (ℕ → ℕ → ℕ) → List ℕ → List ℕ → ℕ → ℕ
 each op xs ys l = op (getD xs l 0) (getD ys l 0)
