@@ -31,6 +31,10 @@ word-more s t u at i b word h byte e f =
     sets-joined s t u at i (take i word) (getD word i 0 ∷ []) (length-take-le i word (le-of-lt h)) e (f ∙ ap (set t (at + i)) byte)
     ∙ ap (sets s at) (take-more word i h)
 
+-- the whole of it
+pub word-all : (s t : List ℕ) (at i : ℕ) (word : List ℕ) → length word ≤ i → t ≡ sets s at (take i word) → t ≡ sets s at word
+word-all s t at i word h e = e ∙ ap (sets s at) (take-all i word h)
+
 -- ---- hex
 
 pub two-stored : (s t u : List ℕ) (at x y b : ℕ) → x ≡ hexDigit (b / 16) → y ≡ hexDigit (b % 16) → t ≡ set s at x → u ≡ set t (at + 1) y

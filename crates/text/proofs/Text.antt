@@ -1,7 +1,7 @@
 -- An answer's text, and the lines, as their pieces are stored.
 -- Assumes nothing.
 use mathlib.Core.Path.{_≡_, refl, sym, ap, subst, _∙_}
-use mathlib.Core.List.{List, _++_}
+use mathlib.Core.List.{List, _++_, append-assoc}
 use Prim.Native.Nat.{ℕ, _+_, _≤_}
 use native.Mathlib.Omega.{arith}
 use lib.ListN.{length}
@@ -16,32 +16,36 @@ use Rattle.text.proofs.Pieces.{Stored, stored-append}
 
 -- ---- answers
 
--- what a call of the function that stores a word and a number ensures
-abbrev Counted : List ℕ → ℕ → List ℕ → ℕ → List ℕ → ℕ → Type 0
-Counted s at word n t r = Stored s at (word ++ digits n) t r × (r ≤ at + length word + 20)
-
-module _ (s t : List ℕ) (at r : ℕ) where
-  -- the text of an answer, and its length at most
+module _ (s t u : List ℕ) (at a r : ℕ) where
+  -- the text of an answer behind a space, and its length at most
   abbrev Answered : Answer → Type 0
-  Answered a = Stored s at (answerText a) t r × (r ≤ at + 28)
+  Answered answer = Stored s at (space ++ answerText answer) u r × (r ≤ at + 29)
 
-  answer-stored : (a b : Answer) (word : List ℕ) (n k : ℕ) → a ≡ b → n ≡ k → answerText b ≡ word ++ digits k → length word ≤ 8
-      → Counted s at word n t r → Answered a
-  answer-stored a b word n k e number text short (stored, bound) =
-      let same : word ++ digits n ≡ answerText a = ap (λ (m : ℕ). word ++ digits m) number ∙ sym (ap answerText e ∙ text) in
-      (subst (λ (xs : List ℕ). Stored s at xs t r) same stored, omega arith)
+  -- a word that is stored with the space before it, and then a number
+  answer-stored : (answer b : Answer) (word : List ℕ) (n k : ℕ) → answer ≡ b → n ≡ k → space ++ answerText b ≡ word ++ digits k → length word ≤ 9
+      → Stored s at word t a → Stored t a (digits n) u r → r ≤ a + 20 → Answered answer
+  answer-stored answer b word n k e number text few first last short =
+      let same : word ++ digits n ≡ space ++ answerText answer =
+      ap (λ (m : ℕ). word ++ digits m) number ∙ sym (ap (λ (x : Answer). space ++ answerText x) e ∙ text)
+      in
+      (subst (λ (xs : List ℕ). Stored s at xs u r) same (stored-append s t u at a r word (digits n) first last), omega (arith, first .1))
 
-  pub done-stored : (a : Answer) (bytes : ℕ) → a ≡ Done bytes → Counted s at doneWord bytes t r → Answered a
+  pub done-stored : (answer : Answer) (bytes : ℕ) → answer ≡ Done bytes
+      → Stored s at (space ++ doneWord) t a → Stored t a (digits bytes) u r → r ≤ a + 20 → Answered answer
   unfolding answerText
-  done-stored a bytes e = answer-stored a (Done bytes) doneWord bytes bytes e refl refl (omega arith)
+  done-stored answer bytes e = answer-stored answer (Done bytes) (space ++ doneWord) bytes bytes e refl refl (omega arith)
 
-  pub no-op-stored : (a : Answer) (reason : Reason) (n : ℕ) → a ≡ NoOp reason → n ≡ reasonNumber reason → Counted s at noOpWord n t r → Answered a
+  pub no-op-stored : (answer : Answer) (reason : Reason) (n : ℕ) → answer ≡ NoOp reason → n ≡ reasonNumber reason
+      → Stored s at (space ++ noOpWord) t a → Stored t a (digits n) u r → r ≤ a + 20 → Answered answer
   unfolding answerText
-  no-op-stored a reason n e number = answer-stored a (NoOp reason) noOpWord n (reasonNumber reason) e number refl (omega arith)
+  no-op-stored answer reason n e number =
+      answer-stored answer (NoOp reason) (space ++ noOpWord) n (reasonNumber reason) e number refl (omega arith)
 
-  pub refused-stored : (a : Answer) (refusal : Refusal) (n : ℕ) → a ≡ Refused refusal → n ≡ refusalNumber refusal → Counted s at refusedWord n t r → Answered a
+  pub refused-stored : (answer : Answer) (refusal : Refusal) (n : ℕ) → answer ≡ Refused refusal → n ≡ refusalNumber refusal
+      → Stored s at (space ++ refusedWord) t a → Stored t a (digits n) u r → r ≤ a + 20 → Answered answer
   unfolding answerText
-  refused-stored a refusal n e number = answer-stored a (Refused refusal) refusedWord n (refusalNumber refusal) e number refl (omega arith)
+  refused-stored answer refusal n e number =
+      answer-stored answer (Refused refusal) (space ++ refusedWord) n (refusalNumber refusal) e number refl (omega arith)
 
 -- ---- lines
 
@@ -58,24 +62,22 @@ pub file-stored : (s t u : List ℕ) (at a b n : ℕ) → Stored s at (fileRefus
 unfolding refusedLine
 file-stored s t u at a b n = line-of-2 s t u at a b (fileRefusedWord ++ digits n) (refusedLine n) refl
 
--- a word and a number, a space, more, and the end of the line
-line-of-4 : (s t u v w : List ℕ) (at a b c d : ℕ) (xs ys line : List ℕ) → line ≡ xs ++ space ++ ys ++ newline
-    → Stored s at xs t a → Stored t a space u b → Stored u b ys v c → Stored v c newline w d → Stored s at line w d
-line-of-4 s t u v w at a b c d xs ys line e first gap more back =
-    line-of-2 s v w at c d (xs ++ space ++ ys) line e
-    (stored-append s u v at b c (xs ++ space) ys (stored-append s t u at a b xs space first gap) more)
-    back
-
 pub step-stored : (s t u v w : List ℕ) (at a b c d place : ℕ) (answer : Answer)
-    → Stored s at (stepWord ++ digits place) t a → Stored t a space u b → Stored u b (answerText answer) v c → Stored v c newline w d
+    → Stored s at stepWord t a → Stored t a (digits place) u b → Stored u b (space ++ answerText answer) v c → Stored v c newline w d
     → Stored s at (stepLine place answer) w d
 unfolding stepLine
-step-stored s t u v w at a b c d place answer =
-    line-of-4 s t u v w at a b c d (stepWord ++ digits place) (answerText answer) (stepLine place answer) refl
+step-stored s t u v w at a b c d place answer word number text =
+    let front : List ℕ = stepWord ++ digits place in
+    line-of-2 s v w at c d (front ++ (space ++ answerText answer)) (stepLine place answer)
+    (ap (λ (xs : List ℕ). xs ++ newline) (append-assoc front space (answerText answer)))
+    (stored-append s u v at b c front (space ++ answerText answer) (stored-append s t u at a b stepWord (digits place) word number) text)
 
+-- a word and a number, a space, the bytes, and the end of the line
 pub row-stored : (s t u v w : List ℕ) (at a b c d row : ℕ) (bytes : List ℕ)
     → Stored s at (zWord ++ digits row) t a → Stored t a space u b → Stored u b (hex bytes) v c → Stored v c newline w d
     → Stored s at (zLine row bytes) w d
 unfolding zLine
-row-stored s t u v w at a b c d row bytes =
-    line-of-4 s t u v w at a b c d (zWord ++ digits row) (hex bytes) (zLine row bytes) refl
+row-stored s t u v w at a b c d row bytes first gap more =
+    let front : List ℕ = zWord ++ digits row in
+    line-of-2 s v w at c d (front ++ space ++ hex bytes) (zLine row bytes) refl
+    (stored-append s u v at b c (front ++ space) (hex bytes) (stored-append s t u at a b front space first gap) more)

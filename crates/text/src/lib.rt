@@ -5,7 +5,7 @@ ghost use mathlib.Core.List.{_∷_, [], _++_};
 ghost use Prim.Native.Nat.{_+_, _≤_, _<_, _^_, _/_, _%_};
 ghost use lib.ListN.{length};
 ghost use lib.Seq.{sets};
-ghost use Rattle.text.specs.Lines.{digits, hexDigit, hex, answerText, stepLine, zLine, stepsLine, refusedLine};
+ghost use Rattle.text.specs.Lines.{digits, hexDigit, hex, space, answerText, stepLine, zLine, stepsLine, refusedLine};
 
 // ---- bytes and words, with the position after them for the result
 
@@ -17,10 +17,25 @@ fn put(out: &mut [u8], at: usize, b: u8) -> usize
     at + 1
 }
 
+// Where there is room for all of it.
+fn store_word(out: &mut [u8], at: usize, word: &[u8])
+    requires { ⌜ at + length (now word) ≤ length (now out) ⌝ }
+    ensures { λ _. ⌜ now (out .exit) ≡ sets (now (out .entry)) at (now (word .entry)) ⌝ }
+{
+    for i in 0..word.len() {
+        out[at + i] = word[i];
+    }
+}
+
+// With one test of the room, not one for each byte, where there is enough.
 fn put_word(out: &mut [u8], at: usize, word: &[u8]) -> usize
     requires { ⌜ at < 2 ^ 62 ⌝ }
     ensures { λ r. ⌜ (now (out .exit) ≡ sets (now (out .entry)) at (now (word .entry))) × (r ≡ at + length (now (word .entry))) ⌝ }
 {
+    if at + word.len() <= out.len() {
+        store_word(out, at, word);
+        return at + word.len();
+    }
     for i in 0..word.len() {
         number::put8(out, at + i, word[i]);
     }
@@ -29,8 +44,44 @@ fn put_word(out: &mut [u8], at: usize, word: &[u8]) -> usize
 
 // ---- numbers
 
+// Two digits, where there is room. They are made as one number of two bytes, which the compiler stores at once.
+fn store_pair(out: &mut [u8], at: usize, n: u32) -> usize
+    requires { ⌜ (n < 100) × (at + 2 ≤ length (now out)) ⌝ }
+    ensures { λ r. ⌜ (now (out .exit) ≡ sets (now (out .entry)) at ((48 + n / 10) ∷ (48 + n % 10) ∷ [])) × (r ≡ at + 2) ⌝ }
+{
+    let both = n / 10 + 256 * (n % 10) + 12_336;
+    out[at] = (both % 256) as u8;
+    out[at + 1] = (both / 256) as u8;
+    at + 2
+}
+
+fn store_below_100(out: &mut [u8], at: usize, n: u32) -> usize
+    requires { ⌜ (n < 100) × (at + 2 ≤ length (now out)) ⌝ }
+    ensures { λ r. ⌜ (now (out .exit) ≡ sets (now (out .entry)) at (digits n)) × (r ≡ at + length (digits n)) ⌝ }
+    ensures short { λ r. ⌜ r ≤ at + 2 ⌝ }
+{
+    if n < 10 {
+        out[at] = b'0' + n as u8;
+        return at + 1;
+    }
+    store_pair(out, at, n)
+}
+
+// The digits of n / 100, where there are any, and then the last two.
+fn store_below_10000(out: &mut [u8], at: usize, n: u32) -> usize
+    requires { ⌜ (n < 10000) × (at + 4 ≤ length (now out)) ⌝ }
+    ensures { λ r. ⌜ (now (out .exit) ≡ sets (now (out .entry)) at (digits n)) × (r ≡ at + length (digits n)) ⌝ }
+    ensures short { λ r. ⌜ r ≤ at + 4 ⌝ }
+{
+    if n < 100 {
+        return store_below_100(out, at, n);
+    }
+    let next = store_below_100(out, at, n / 100);
+    store_pair(out, next, n % 100)
+}
+
 // The digits of n / 10, where there are any, and then the last one.
-fn put_decimal(out: &mut [u8], at: usize, n: u64) -> usize
+fn put_digits(out: &mut [u8], at: usize, n: u64) -> usize
     requires { ⌜ at < 2 ^ 61 ⌝ }
     ensures { λ r. ⌜ (now (out .exit) ≡ sets (now (out .entry)) at (digits n)) × (r ≡ at + length (digits n)) ⌝ }
     ensures short { λ r. ⌜ r ≤ at + 20 ⌝ }
@@ -38,8 +89,35 @@ fn put_decimal(out: &mut [u8], at: usize, n: u64) -> usize
     if n < 10 {
         return put(out, at, b'0' + n as u8);
     }
-    let next = put_decimal(out, at, n / 10);
+    let next = put_digits(out, at, n / 10);
     put(out, next, b'0' + (n % 10) as u8)
+}
+
+// A number below a million, as steps have, without a test of the room for each digit.
+fn store_decimal(out: &mut [u8], at: usize, n: u64) -> usize
+    requires { ⌜ (at < 2 ^ 61) × (at + 6 ≤ length (now out)) ⌝ }
+    ensures { λ r. ⌜ (now (out .exit) ≡ sets (now (out .entry)) at (digits n)) × (r ≡ at + length (digits n)) ⌝ }
+    ensures short { λ r. ⌜ r ≤ at + 20 ⌝ }
+{
+    if n < 10_000 {
+        return store_below_10000(out, at, n as u32);
+    }
+    if 1_000_000 <= n {
+        return put_digits(out, at, n);
+    }
+    let next = store_below_10000(out, at, (n / 100) as u32);
+    store_pair(out, next, (n % 100) as u32)
+}
+
+fn put_decimal(out: &mut [u8], at: usize, n: u64) -> usize
+    requires { ⌜ at < 2 ^ 61 ⌝ }
+    ensures { λ r. ⌜ (now (out .exit) ≡ sets (now (out .entry)) at (digits n)) × (r ≡ at + length (digits n)) ⌝ }
+    ensures short { λ r. ⌜ r ≤ at + 20 ⌝ }
+{
+    if out.len() < at + 6 {
+        return put_digits(out, at, n);
+    }
+    store_decimal(out, at, n)
 }
 
 // A word and a number.
@@ -81,15 +159,25 @@ fn put_hex(out: &mut [u8], at: usize, bytes: &[u8]) -> usize
 
 // ---- lines
 
+// A space and an answer. Each word stands at its own call, so that the compiler knows its length.
 fn put_answer(out: &mut [u8], at: usize, answer: isa::Answer) -> usize
     requires { ⌜ at < 2 ^ 60 ⌝ }
-    ensures { λ r. ⌜ (now (out .exit) ≡ sets (now (out .entry)) at (answerText answer)) × (r ≡ at + length (answerText answer)) ⌝ }
-    ensures short { λ r. ⌜ r ≤ at + 28 ⌝ }
+    ensures { λ r. ⌜ (now (out .exit) ≡ sets (now (out .entry)) at (space ++ answerText answer)) × (r ≡ at + length (space ++ answerText answer)) ⌝ }
+    ensures short { λ r. ⌜ r ≤ at + 29 ⌝ }
 {
     match answer {
-        isa::Answer::Done { bytes } => put_counted(out, at, b"done ", bytes),
-        isa::Answer::NoOp(r) => put_counted(out, at, b"no-op ", isa::reason_number(r)),
-        isa::Answer::Refused(r) => put_counted(out, at, b"refused ", isa::refusal_number(r)),
+        isa::Answer::Done { bytes } => {
+            let next = put_word(out, at, b" done ");
+            put_decimal(out, next, bytes)
+        }
+        isa::Answer::NoOp(r) => {
+            let next = put_word(out, at, b" no-op ");
+            put_decimal(out, next, isa::reason_number(r))
+        }
+        isa::Answer::Refused(r) => {
+            let next = put_word(out, at, b" refused ");
+            put_decimal(out, next, isa::refusal_number(r))
+        }
     }
 }
 
@@ -97,8 +185,8 @@ fn put_answer(out: &mut [u8], at: usize, answer: isa::Answer) -> usize
 pub fn step_line(out: &mut [u8], at: u32, place: u64, answer: isa::Answer) -> usize
     ensures { λ r. ⌜ (now (out .exit) ≡ sets (now (out .entry)) at (stepLine place answer)) × (r ≡ at + length (stepLine place answer)) ⌝ }
 {
-    let next = put_counted(out, at as usize, b"step ", place);
-    let next = put(out, next, b' ');
+    let next = put_word(out, at as usize, b"step ");
+    let next = put_decimal(out, next, place);
     let next = put_answer(out, next, answer);
     put(out, next, b'\n')
 }

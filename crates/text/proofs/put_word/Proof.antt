@@ -3,8 +3,8 @@ use Prim.Native.Nat.{_-_, _≤_}
 use native.Mathlib.Omega.{arith}
 use borrow.Author.Needs.{needs}
 use lib.ListN.{length, getD, take}
-use lib.Seq.{sets, length-sets, take-all}
-use Rattle.text.proofs.Pieces.{word-more}
+use lib.Seq.{sets, length-sets}
+use Rattle.text.proofs.Pieces.{word-more, word-all}
 use Rattle.text.proofs.put_word.Statement.{statement}
 use Rattle.text.proofs.put_word.Tie as tie
 
@@ -14,45 +14,79 @@ Inv-loop out₀ at word i₀ i-end out i = (i-end ≡ length word) × (i ≤ len
 abbrev μ-loop : tie.MeasureT-loop
 μ-loop out₀ at word i₀ i-end out i = i-end - i
 
--- src/lib.rt:24:5
-loop-holds : tie.Need-loop-holds Inv-loop μ-loop
-loop-holds c = (refl, omega arith, refl)
+-- src/lib.rt:35:8
+add-if1 : tie.Need-add-if1 Inv-loop μ-loop
+add-if1 c = search needs
 
--- src/lib.rt:25:27
-add-put8 : tie.Need-add-put8 Inv-loop μ-loop
-add-put8 c = search needs
+-- src/lib.rt:36:9
+store-word-requires : tie.Need-store-word-requires Inv-loop μ-loop
+store-word-requires c κs = search needs
 
--- src/lib.rt:25:35
-shared-slice-read-put8 : tie.Need-shared-slice-read-put8 Inv-loop μ-loop
-shared-slice-read-put8 c = search needs
-
--- src/lib.rt:25:9
-put8-requires : tie.Need-put8-requires Inv-loop μ-loop
-put8-requires c κs = search needs
-
--- src/lib.rt:24:9
-add-i : tie.Need-add-i Inv-loop μ-loop
-add-i c = search needs
-
--- src/lib.rt:24:5
-loop-less : tie.Need-loop-less Inv-loop μ-loop
-loop-less c = search needs
-
--- src/lib.rt:24:5
-loop-again : tie.Need-loop-again Inv-loop μ-loop
-loop-again c = (c .before .before .before .before .before .before .loop .inv .0, omega arith, word-more (c .before .before .before .before .before .before .before .before .before .args .out .now) (c .before .before .before .before .before .before .loop .out) (c .before .before .put8 .last .0) (c .before .before .before .before .before .before .before .before .before .args .at) (c .before .before .before .before .before .before .loop .i) (getD (c .before .before .before .before .before .before .before .before .before .args .word .now) (c .before .before .before .before .before .before .loop .i) 0) (c .before .before .before .before .before .before .before .before .before .args .word .now) (omega arith) refl (c .before .before .before .before .before .before .loop .inv .2) (c .before .before .put8 .ensures))
-
--- src/lib.rt:27:5
+-- src/lib.rt:37:16
 add-result : tie.Need-add-result Inv-loop μ-loop
 add-result c = search needs
 
--- src/lib.rt:20:1
+-- src/lib.rt:37:9
 same-length : tie.Need-same-length Inv-loop μ-loop
-same-length c = ap length (c .before .loop .inv .2) ∙ length-sets (c .before .before .before .before .args .out .now) (c .before .before .before .before .args .at) (take (c .before .loop .i) (c .before .before .before .before .args .word .now))
+same-length c = search needs
 
--- src/lib.rt:20:1
+-- src/lib.rt:37:9
 returns : tie.Need-returns Inv-loop μ-loop
-returns c = (c .before .loop .inv .2 ∙ ap (sets (c .before .before .before .before .args .out .now) (c .before .before .before .before .args .at)) (take-all (c .before .loop .i) (c .before .before .before .before .args .word .now) (omega arith)), refl)
+returns c = (c .before .before .store-word .ensures, refl)
+
+-- src/lib.rt:39:5
+loop-holds : tie.Need-loop-holds Inv-loop μ-loop
+loop-holds c = (refl, omega arith, refl)
+
+-- src/lib.rt:40:27
+add-put8 : tie.Need-add-put8 Inv-loop μ-loop
+add-put8 c = search needs
+
+-- src/lib.rt:40:35
+shared-slice-read-put8 : tie.Need-shared-slice-read-put8 Inv-loop μ-loop
+shared-slice-read-put8 c = search needs
+
+-- src/lib.rt:40:9
+put8-requires : tie.Need-put8-requires Inv-loop μ-loop
+put8-requires c κs = search needs
+
+-- src/lib.rt:39:9
+add-i : tie.Need-add-i Inv-loop μ-loop
+add-i c = search needs
+
+-- src/lib.rt:39:5
+loop-less : tie.Need-loop-less Inv-loop μ-loop
+loop-less c = search needs
+
+-- src/lib.rt:39:5
+loop-again : tie.Need-loop-again Inv-loop μ-loop
+loop-again c =
+    let stored = c .before .before in
+    let turn = stored .before .before .before .before in
+    let a = turn .before .before .before .before .args in (
+      turn .loop .inv .0,
+      omega arith,
+      word-more (a .out .now) (turn .loop .out) (stored .put8 .last .0) (a .at) (turn .loop .i) (getD (a .word .now) (turn .loop .i) 0) (a .word .now)
+          (omega arith) refl (turn .loop .inv .2) (stored .put8 .ensures),
+    )
+
+-- src/lib.rt:42:5
+add-result-2 : tie.Need-add-result-2 Inv-loop μ-loop
+add-result-2 c = search needs
+
+-- src/lib.rt:31:1
+same-length-2 : tie.Need-same-length-2 Inv-loop μ-loop
+same-length-2 c =
+    let last = c .before in
+    let a = last .before .before .before .before .args in
+    ap length (last .loop .inv .2) ∙ length-sets (a .out .now) (a .at) (take (last .loop .i) (a .word .now))
+
+-- src/lib.rt:31:1
+returns-2 : tie.Need-returns-2 Inv-loop μ-loop
+returns-2 c =
+    let last = c .before in
+    let a = last .before .before .before .before .args in
+    (word-all (a .out .now) (last .loop .out) (a .at) (last .loop .i) (a .word .now) (omega arith) (last .loop .inv .2), refl)
 
 pub put-word-spec : {M : Type 1} → statement M
 put-word-spec =
@@ -60,6 +94,11 @@ put-word-spec =
     (tie.spec
     Inv-loop
     μ-loop
+    add-if1
+    store-word-requires
+    add-result
+    same-length
+    returns
     loop-holds
     add-put8
     shared-slice-read-put8
@@ -67,6 +106,6 @@ put-word-spec =
     add-i
     loop-less
     loop-again
-    add-result
-    same-length
-    returns)
+    add-result-2
+    same-length-2
+    returns-2)

@@ -1,44 +1,52 @@
-use Rattle.text.proofs.Text.{step-stored}
 use borrow.Author.Needs.{needs}
+use Rattle.text.proofs.Text.{step-stored}
 use Rattle.text.proofs.step_line.Statement.{statement}
 use Rattle.text.proofs.step_line.Tie as tie
 
--- src/lib.rt:100:46
-slice-aggregate-put-counted : tie.Need-slice-aggregate-put-counted
-slice-aggregate-put-counted c = search needs
+-- src/lib.rt:188:43
+slice-aggregate-put-word : tie.Need-slice-aggregate-put-word
+slice-aggregate-put-word c = search needs
 
--- src/lib.rt:100:9
-put-counted-requires : tie.Need-put-counted-requires
-put-counted-requires c κs = search needs
+-- src/lib.rt:188:9
+put-word-requires : tie.Need-put-word-requires
+put-word-requires c κs = search needs
 
--- src/lib.rt:101:9
-put-requires : tie.Need-put-requires
-put-requires c κs = search needs
+-- src/lib.rt:189:9
+put-decimal-requires : tie.Need-put-decimal-requires
+put-decimal-requires c κs = search needs
 
--- src/lib.rt:102:9
+-- src/lib.rt:190:9
 put-answer-requires : tie.Need-put-answer-requires
 put-answer-requires c κs = search needs
 
--- src/lib.rt:103:5
-put-requires-2 : tie.Need-put-requires-2
-put-requires-2 c κs = search needs
+-- src/lib.rt:191:5
+put-requires : tie.Need-put-requires
+put-requires c κs = search needs
 
--- src/lib.rt:97:1
+-- src/lib.rt:185:1
 same-length : tie.Need-same-length
 same-length c = search needs
 
--- src/lib.rt:97:1
+-- src/lib.rt:185:1
 returns : tie.Need-returns
-returns c = step-stored (c .before .before .before .before .before .before .before .before .before .before .before .before .before .before .before .before .before .before .args .out .now) (c .before .before .before .before .before .before .before .before .before .before .before .before .before .before .put-counted .last .0) (c .before .before .before .before .before .before .before .before .before .before .put .last .0) (c .before .before .before .before .before .before .put-answer .last .0) (c .before .before .put2 .last .0) (c .before .before .before .before .before .before .before .before .before .before .before .before .before .before .before .before .before .before .args .at) (c .before .before .before .before .before .before .before .before .before .before .before .before .before .before .put-counted .result) (c .before .before .before .before .before .before .before .before .before .before .put .result) (c .before .before .before .before .before .before .put-answer .result) (c .before .before .put2 .result) (c .before .before .before .before .before .before .before .before .before .before .before .before .before .before .before .before .before .before .args .place) (c .before .before .before .before .before .before .before .before .before .before .before .before .before .before .before .before .before .before .args .answer) (c .before .before .before .before .before .before .before .before .before .before .before .before .before .before .put-counted .ensures .0) (c .before .before .before .before .before .before .before .before .before .before .put .ensures) (c .before .before .before .before .before .before .put-answer .ensures .0) (c .before .before .put2 .ensures)
+returns c =
+    let end = c .before .before in
+    let text = end .before .before .before .before in
+    let number = text .before .before .before .before in
+    let word = number .before .before .before .before in
+    let start = word .before .before .before .before in
+    step-stored (start .args .out .now) (word .put-word .last .0) (number .put-decimal .last .0) (text .put-answer .last .0) (end .put .last .0)
+    (start .args .at) (word .put-word .result) (number .put-decimal .result) (text .put-answer .result) (end .put .result)
+    (start .args .place) (start .args .answer) (word .put-word .ensures) (number .put-decimal .ensures .0) (text .put-answer .ensures .0) (end .put .ensures)
 
 pub step-line-spec : {M : Type 1} → statement M
 step-line-spec =
     tie.close
     (tie.spec
-    slice-aggregate-put-counted
-    put-counted-requires
-    put-requires
+    slice-aggregate-put-word
+    put-word-requires
+    put-decimal-requires
     put-answer-requires
-    put-requires-2
+    put-requires
     same-length
     returns)
