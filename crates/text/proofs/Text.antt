@@ -72,6 +72,11 @@ step-stored s t u v w at a b c d place answer word number text =
     (ap (λ (xs : List ℕ). xs ++ newline) (append-assoc front space (answerText answer)))
     (stored-append s u v at b c front (space ++ answerText answer) (stored-append s t u at a b stepWord (digits place) word number) text)
 
+-- the line of an answer that is done
+pub done-line : (s t : List ℕ) (at r place bytes : ℕ) (answer : Answer) → answer ≡ Done bytes
+    → Stored s at (stepLine place (Done bytes)) t r → Stored s at (stepLine place answer) t r
+done-line s t at r place bytes answer e = subst (λ (x : Answer). Stored s at (stepLine place x) t r) (sym e)
+
 -- a word and a number, a space, the bytes, and the end of the line
 pub row-stored : (s t u v w : List ℕ) (at a b c d row : ℕ) (bytes : List ℕ)
     → Stored s at (zWord ++ digits row) t a → Stored t a space u b → Stored u b (hex bytes) v c → Stored v c newline w d

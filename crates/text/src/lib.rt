@@ -1,10 +1,12 @@
 // The lines that a trace prints, each stored in a lent buffer from a position on. A byte past the buffer's end is not stored, and the result is the
 // position after the line all the same: past the buffer's length where the line did not fit. Every function that is pub takes every argument.
+// What is called store asks for room and does not test it; what is called put tests it.
 ghost use mathlib.Core.Path.{_≡_};
 ghost use mathlib.Core.List.{_∷_, [], _++_};
 ghost use Prim.Native.Nat.{_+_, _≤_, _<_, _^_, _/_, _%_};
 ghost use lib.ListN.{length};
 ghost use lib.Seq.{sets};
+ghost use Rattle.isa.specs.declared.Answer.the-variants.{Done};
 ghost use Rattle.text.specs.Lines.{digits, hexDigit, hex, space, answerText, stepLine, zLine, stepsLine, refusedLine};
 
 // ---- bytes and words, with the position after them for the result
@@ -17,7 +19,6 @@ fn put(out: &mut [u8], at: usize, b: u8) -> usize
     at + 1
 }
 
-// Where there is room for all of it.
 fn store_word(out: &mut [u8], at: usize, word: &[u8])
     requires { ⌜ at + length (now word) ≤ length (now out) ⌝ }
     ensures { λ _. ⌜ now (out .exit) ≡ sets (now (out .entry)) at (now (word .entry)) ⌝ }
@@ -27,7 +28,7 @@ fn store_word(out: &mut [u8], at: usize, word: &[u8])
     }
 }
 
-// With one test of the room, not one for each byte, where there is enough.
+// Where there is room for the whole word, one test tells so, not one for each byte.
 fn put_word(out: &mut [u8], at: usize, word: &[u8]) -> usize
     requires { ⌜ at < 2 ^ 62 ⌝ }
     ensures { λ r. ⌜ (now (out .exit) ≡ sets (now (out .entry)) at (now (word .entry))) × (r ≡ at + length (now (word .entry))) ⌝ }
@@ -44,7 +45,7 @@ fn put_word(out: &mut [u8], at: usize, word: &[u8]) -> usize
 
 // ---- numbers
 
-// Two digits, where there is room. They are made as one number of two bytes, which the compiler stores at once.
+// Two digits. They are made as one number of two bytes, 12,336 with no digits added, which the compiler stores at once.
 fn store_pair(out: &mut [u8], at: usize, n: u32) -> usize
     requires { ⌜ (n < 100) × (at + 2 ≤ length (now out)) ⌝ }
     ensures { λ r. ⌜ (now (out .exit) ≡ sets (now (out .entry)) at ((48 + n / 10) ∷ (48 + n % 10) ∷ [])) × (r ≡ at + 2) ⌝ }
@@ -93,7 +94,7 @@ fn put_digits(out: &mut [u8], at: usize, n: u64) -> usize
     put(out, next, b'0' + (n % 10) as u8)
 }
 
-// A number below a million, as steps have, without a test of the room for each digit.
+// A number below a million, as steps have, by two digits at a time; another as put_digits does.
 fn store_decimal(out: &mut [u8], at: usize, n: u64) -> usize
     requires { ⌜ (at < 2 ^ 61) × (at + 6 ≤ length (now out)) ⌝ }
     ensures { λ r. ⌜ (now (out .exit) ≡ sets (now (out .entry)) at (digits n)) × (r ≡ at + length (digits n)) ⌝ }
@@ -181,14 +182,41 @@ fn put_answer(out: &mut [u8], at: usize, answer: isa::Answer) -> usize
     }
 }
 
+// The line of a done step: most lines are such.
+fn store_done(out: &mut [u8], at: usize, place: u64, bytes: u64) -> usize
+    requires { ⌜ (at < 2 ^ 60) × (at + 64 ≤ length (now out)) ⌝ }
+    ensures { λ r. ⌜ (now (out .exit) ≡ sets (now (out .entry)) at (stepLine place (Done bytes))) × (r ≡ at + length (stepLine place (Done bytes))) ⌝ }
+{
+    store_word(out, at, b"step ");
+    let next = store_decimal(out, at + 5, place);
+    store_word(out, next, b" done ");
+    let next = store_decimal(out, next + 6, bytes);
+    store_word(out, next, b"\n");
+    next + 1
+}
+
+fn put_step(out: &mut [u8], at: usize, place: u64, answer: isa::Answer) -> usize
+    requires { ⌜ at < 2 ^ 32 ⌝ }
+    ensures { λ r. ⌜ (now (out .exit) ≡ sets (now (out .entry)) at (stepLine place answer)) × (r ≡ at + length (stepLine place answer)) ⌝ }
+{
+    let next = put_word(out, at, b"step ");
+    let next = put_decimal(out, next, place);
+    let next = put_answer(out, next, answer);
+    put(out, next, b'\n')
+}
+
 // A step's place and its answer.
 pub fn step_line(out: &mut [u8], at: u32, place: u64, answer: isa::Answer) -> usize
     ensures { λ r. ⌜ (now (out .exit) ≡ sets (now (out .entry)) at (stepLine place answer)) × (r ≡ at + length (stepLine place answer)) ⌝ }
 {
-    let next = put_word(out, at as usize, b"step ");
-    let next = put_decimal(out, next, place);
-    let next = put_answer(out, next, answer);
-    put(out, next, b'\n')
+    let start = at as usize;
+    if out.len() < start + 64 {
+        return put_step(out, start, place, answer);
+    }
+    let isa::Answer::Done { bytes } = answer else {
+        return put_step(out, start, place, answer);
+    };
+    store_done(out, start, place, bytes)
 }
 
 // A row of Z and its bytes.

@@ -22,7 +22,7 @@ abbrev put-digits-below : ℕ → In 1 put-digits-kinds.ps
 put-digits-below t =
     and 1 put-digits-kinds.ps (falls 1 put-digits-kinds.ps _<_ μ-put-digits t) put-digits.Pre
 
--- src/lib.rt:39:36
+-- src/lib.rt:91:36
 put-digits-cast-put : (t : ℕ) → put-digits-lts.Need-cast-put (
   put-reads.Asked,
   put-reads.Learnt,
@@ -31,7 +31,7 @@ put-digits-cast-put : (t : ℕ) → put-digits-lts.Need-cast-put (
 ) (put-digits-at t) put-digits.Post
 put-digits-cast-put t c = search needs
 
--- src/lib.rt:39:29
+-- src/lib.rt:91:29
 put-digits-add-put : (t : ℕ) → put-digits-lts.Need-add-put (
   put-reads.Asked,
   put-reads.Learnt,
@@ -40,7 +40,7 @@ put-digits-add-put : (t : ℕ) → put-digits-lts.Need-add-put (
 ) (put-digits-at t) put-digits.Post
 put-digits-add-put t c = search needs
 
--- src/lib.rt:39:9
+-- src/lib.rt:91:9
 put-digits-put-requires : (t : ℕ) → put-digits-lts.Need-put-requires (
   put-reads.Asked,
   put-reads.Learnt,
@@ -49,7 +49,7 @@ put-digits-put-requires : (t : ℕ) → put-digits-lts.Need-put-requires (
 ) (put-digits-at t) put-digits.Post
 put-digits-put-requires t c κs = search needs
 
--- src/lib.rt:39:9
+-- src/lib.rt:91:9
 put-digits-same-length : (t : ℕ) → put-digits-lts.Need-same-length (
   put-reads.Asked,
   put-reads.Learnt,
@@ -58,7 +58,7 @@ put-digits-same-length : (t : ℕ) → put-digits-lts.Need-same-length (
 ) (put-digits-at t) put-digits.Post
 put-digits-same-length t c = search needs
 
--- src/lib.rt:39:9
+-- src/lib.rt:91:9
 put-digits-returns : (t : ℕ) → put-digits-lts.Need-returns (
   put-reads.Asked,
   put-reads.Learnt,
@@ -74,7 +74,7 @@ put-digits-returns t c =
       omega (arith, called .put .ensures .1),
     )
 
--- src/lib.rt:41:9
+-- src/lib.rt:93:9
 put-digits-put-digits-requires : (t : ℕ) → put-digits-lts.Need-put-digits-requires (
   put-reads.Asked,
   put-reads.Learnt,
@@ -83,7 +83,7 @@ put-digits-put-digits-requires : (t : ℕ) → put-digits-lts.Need-put-digits-re
 ) (put-digits-at t) put-digits.Post
 put-digits-put-digits-requires t c κs = (omega (arith, c .before .before .before .pre .0), c .before .before .before .pre .1)
 
--- src/lib.rt:42:27
+-- src/lib.rt:94:27
 put-digits-cast-put-2 : (t : ℕ) → put-digits-lts.Need-cast-put-2 (
   put-reads.Asked,
   put-reads.Learnt,
@@ -92,7 +92,7 @@ put-digits-cast-put-2 : (t : ℕ) → put-digits-lts.Need-cast-put-2 (
 ) (put-digits-at t) put-digits.Post
 put-digits-cast-put-2 t c = search needs
 
--- src/lib.rt:42:20
+-- src/lib.rt:94:20
 put-digits-add-put-2 : (t : ℕ) → put-digits-lts.Need-add-put-2 (
   put-reads.Asked,
   put-reads.Learnt,
@@ -101,7 +101,7 @@ put-digits-add-put-2 : (t : ℕ) → put-digits-lts.Need-add-put-2 (
 ) (put-digits-at t) put-digits.Post
 put-digits-add-put-2 t c = search needs
 
--- src/lib.rt:42:5
+-- src/lib.rt:94:5
 put-digits-put-requires-2 : (t : ℕ) → put-digits-lts.Need-put-requires-2 (
   put-reads.Asked,
   put-reads.Learnt,
@@ -112,7 +112,7 @@ put-digits-put-requires-2 t c κs =
     let front = c .before .before .before in
     omega (arith, front .put-digits .ensures .1, front .before .before .before .before .pre .1)
 
--- src/lib.rt:33:1
+-- src/lib.rt:85:1
 put-digits-same-length-2 : (t : ℕ) → put-digits-lts.Need-same-length-2 (
   put-reads.Asked,
   put-reads.Learnt,
@@ -121,7 +121,7 @@ put-digits-same-length-2 : (t : ℕ) → put-digits-lts.Need-same-length-2 (
 ) (put-digits-at t) put-digits.Post
 put-digits-same-length-2 t c = search needs
 
--- src/lib.rt:33:1
+-- src/lib.rt:85:1
 put-digits-returns-2 : (t : ℕ) → put-digits-lts.Need-returns-2 (
   put-reads.Asked,
   put-reads.Learnt,

@@ -15,51 +15,51 @@ Inv-loop out₀ at bytes i₀ i-end out i = (i-end ≡ length bytes) × (i ≤ l
 abbrev μ-loop : tie.MeasureT-loop
 μ-loop out₀ at bytes i₀ i-end out i = i-end - i
 
--- src/lib.rt:76:5
+-- src/lib.rt:155:5
 loop-holds : tie.Need-loop-holds Inv-loop μ-loop
 loop-holds c = (refl, omega arith, hex-none (c .before .before .args .out .now) (c .before .before .args .at) (c .before .before .args .bytes .now))
 
--- src/lib.rt:77:28
+-- src/lib.rt:156:28
 mul-put-hex8 : tie.Need-mul-put-hex8 Inv-loop μ-loop
 mul-put-hex8 c = search needs
 
--- src/lib.rt:77:23
+-- src/lib.rt:156:23
 add-put-hex8 : tie.Need-add-put-hex8 Inv-loop μ-loop
 add-put-hex8 c = search needs
 
--- src/lib.rt:77:35
+-- src/lib.rt:156:35
 shared-slice-read-put-hex8 : tie.Need-shared-slice-read-put-hex8 Inv-loop μ-loop
 shared-slice-read-put-hex8 c = search needs
 
--- src/lib.rt:77:9
+-- src/lib.rt:156:9
 put-hex8-requires : tie.Need-put-hex8-requires Inv-loop μ-loop
 put-hex8-requires c κs = search needs
 
--- src/lib.rt:76:9
+-- src/lib.rt:155:9
 add-i : tie.Need-add-i Inv-loop μ-loop
 add-i c = search needs
 
--- src/lib.rt:76:5
+-- src/lib.rt:155:5
 loop-less : tie.Need-loop-less Inv-loop μ-loop
 loop-less c = search needs
 
--- src/lib.rt:76:5
+-- src/lib.rt:155:5
 loop-again : tie.Need-loop-again Inv-loop μ-loop
 loop-again c = (c .before .before .before .before .before .before .loop .inv .0, omega arith, hex-more (c .before .before .before .before .before .before .before .before .before .args .out .now) (c .before .before .before .before .before .before .loop .out) (c .before .before .put-hex8 .last .0) (c .before .before .before .before .before .before .before .before .before .args .at) (c .before .before .before .before .before .before .loop .i) (getD (c .before .before .before .before .before .before .before .before .before .args .bytes .now) (c .before .before .before .before .before .before .loop .i) 0) (c .before .before .before .before .before .before .before .before .before .args .bytes .now) (omega arith) refl (c .before .before .before .before .before .before .loop .inv .2) (c .before .before .put-hex8 .ensures))
 
--- src/lib.rt:79:10
+-- src/lib.rt:158:10
 mul-result : tie.Need-mul-result Inv-loop μ-loop
 mul-result c = search needs
 
--- src/lib.rt:79:5
+-- src/lib.rt:158:5
 add-result : tie.Need-add-result Inv-loop μ-loop
 add-result c = search needs
 
--- src/lib.rt:71:1
+-- src/lib.rt:150:1
 same-length : tie.Need-same-length Inv-loop μ-loop
 same-length c = ap length (c .before .loop .inv .2) ∙ length-sets (c .before .before .before .before .args .out .now) (c .before .before .before .before .args .at) (hex (take (c .before .loop .i) (c .before .before .before .before .args .bytes .now)))
 
--- src/lib.rt:71:1
+-- src/lib.rt:150:1
 returns : tie.Need-returns Inv-loop μ-loop
 returns c = hex-all (c .before .before .before .before .args .out .now) (c .before .loop .out) (c .before .before .before .before .args .at) (c .before .loop .i) (c .before .before .before .before .args .bytes .now) (c .before .before .before .before .pre .1) (omega arith) (c .before .loop .inv .2)
 

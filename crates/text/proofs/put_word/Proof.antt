@@ -14,51 +14,51 @@ Inv-loop out₀ at word i₀ i-end out i = (i-end ≡ length word) × (i ≤ len
 abbrev μ-loop : tie.MeasureT-loop
 μ-loop out₀ at word i₀ i-end out i = i-end - i
 
--- src/lib.rt:35:8
+-- src/lib.rt:36:8
 add-if1 : tie.Need-add-if1 Inv-loop μ-loop
 add-if1 c = search needs
 
--- src/lib.rt:36:9
+-- src/lib.rt:37:9
 store-word-requires : tie.Need-store-word-requires Inv-loop μ-loop
 store-word-requires c κs = search needs
 
--- src/lib.rt:37:16
+-- src/lib.rt:38:16
 add-result : tie.Need-add-result Inv-loop μ-loop
 add-result c = search needs
 
--- src/lib.rt:37:9
+-- src/lib.rt:38:9
 same-length : tie.Need-same-length Inv-loop μ-loop
 same-length c = search needs
 
--- src/lib.rt:37:9
+-- src/lib.rt:38:9
 returns : tie.Need-returns Inv-loop μ-loop
 returns c = (c .before .before .store-word .ensures, refl)
 
--- src/lib.rt:39:5
+-- src/lib.rt:40:5
 loop-holds : tie.Need-loop-holds Inv-loop μ-loop
 loop-holds c = (refl, omega arith, refl)
 
--- src/lib.rt:40:27
+-- src/lib.rt:41:27
 add-put8 : tie.Need-add-put8 Inv-loop μ-loop
 add-put8 c = search needs
 
--- src/lib.rt:40:35
+-- src/lib.rt:41:35
 shared-slice-read-put8 : tie.Need-shared-slice-read-put8 Inv-loop μ-loop
 shared-slice-read-put8 c = search needs
 
--- src/lib.rt:40:9
+-- src/lib.rt:41:9
 put8-requires : tie.Need-put8-requires Inv-loop μ-loop
 put8-requires c κs = search needs
 
--- src/lib.rt:39:9
+-- src/lib.rt:40:9
 add-i : tie.Need-add-i Inv-loop μ-loop
 add-i c = search needs
 
--- src/lib.rt:39:5
+-- src/lib.rt:40:5
 loop-less : tie.Need-loop-less Inv-loop μ-loop
 loop-less c = search needs
 
--- src/lib.rt:39:5
+-- src/lib.rt:40:5
 loop-again : tie.Need-loop-again Inv-loop μ-loop
 loop-again c =
     let stored = c .before .before in
@@ -70,18 +70,18 @@ loop-again c =
           (omega arith) refl (turn .loop .inv .2) (stored .put8 .ensures),
     )
 
--- src/lib.rt:42:5
+-- src/lib.rt:43:5
 add-result-2 : tie.Need-add-result-2 Inv-loop μ-loop
 add-result-2 c = search needs
 
--- src/lib.rt:31:1
+-- src/lib.rt:32:1
 same-length-2 : tie.Need-same-length-2 Inv-loop μ-loop
 same-length-2 c =
     let last = c .before in
     let a = last .before .before .before .before .args in
     ap length (last .loop .inv .2) ∙ length-sets (a .out .now) (a .at) (take (last .loop .i) (a .word .now))
 
--- src/lib.rt:31:1
+-- src/lib.rt:32:1
 returns-2 : tie.Need-returns-2 Inv-loop μ-loop
 returns-2 c =
     let last = c .before in

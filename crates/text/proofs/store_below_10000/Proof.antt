@@ -4,31 +4,31 @@ use Rattle.text.proofs.Decimal.{stored-hundreds}
 use Rattle.text.proofs.store_below_10000.Statement.{statement}
 use Rattle.text.proofs.store_below_10000.Tie as tie
 
--- src/lib.rt:76:9
+-- src/lib.rt:78:9
 store-below-100-requires : tie.Need-store-below-100-requires
 store-below-100-requires c κs = search needs
 
--- src/lib.rt:76:9
+-- src/lib.rt:78:9
 same-length : tie.Need-same-length
 same-length c = search needs
 
--- src/lib.rt:76:9
+-- src/lib.rt:78:9
 returns : tie.Need-returns
 returns c = search needs
 
--- src/lib.rt:78:9
+-- src/lib.rt:80:9
 store-below-100-requires-2 : tie.Need-store-below-100-requires-2
 store-below-100-requires-2 c κs = search needs
 
--- src/lib.rt:79:5
+-- src/lib.rt:81:5
 store-pair-requires : tie.Need-store-pair-requires
 store-pair-requires c κs = search needs
 
--- src/lib.rt:70:1
+-- src/lib.rt:72:1
 same-length-2 : tie.Need-same-length-2
 same-length-2 c = search needs
 
--- src/lib.rt:70:1
+-- src/lib.rt:72:1
 returns-2 : tie.Need-returns-2
 returns-2 c =
     let last = c .before .before in

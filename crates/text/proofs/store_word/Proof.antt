@@ -14,19 +14,19 @@ Inv-loop out₀ at word i₀ i-end out i = (i-end ≡ length word) × (i ≤ len
 abbrev μ-loop : tie.MeasureT-loop
 μ-loop out₀ at word i₀ i-end out i = i-end - i
 
--- src/lib.rt:25:5
+-- src/lib.rt:26:5
 loop-holds : tie.Need-loop-holds Inv-loop μ-loop
 loop-holds c = (refl, omega arith, refl)
 
--- src/lib.rt:26:23
+-- src/lib.rt:27:23
 shared-slice-read-out : tie.Need-shared-slice-read-out Inv-loop μ-loop
 shared-slice-read-out c = search needs
 
--- src/lib.rt:26:13
+-- src/lib.rt:27:13
 add-out : tie.Need-add-out Inv-loop μ-loop
 add-out c = search needs
 
--- src/lib.rt:26:9
+-- src/lib.rt:27:9
 slice-write-out : tie.Need-slice-write-out Inv-loop μ-loop
 slice-write-out c =
     let turn = c .before .before in
@@ -35,15 +35,15 @@ slice-write-out c =
     ap length (turn .loop .inv .2) ∙ length-sets (a .out .now) (a .at) (take (turn .loop .i) (a .word .now))
     in omega (arith, size)
 
--- src/lib.rt:25:9
+-- src/lib.rt:26:9
 add-i : tie.Need-add-i Inv-loop μ-loop
 add-i c = search needs
 
--- src/lib.rt:25:5
+-- src/lib.rt:26:5
 loop-less : tie.Need-loop-less Inv-loop μ-loop
 loop-less c = search needs
 
--- src/lib.rt:25:5
+-- src/lib.rt:26:5
 loop-again : tie.Need-loop-again Inv-loop μ-loop
 loop-again c =
     let turn = c .before .before in
@@ -55,14 +55,14 @@ loop-again c =
           (omega arith) refl (turn .loop .inv .2) refl,
     )
 
--- src/lib.rt:21:1
+-- src/lib.rt:22:1
 same-length : tie.Need-same-length Inv-loop μ-loop
 same-length c =
     let last = c .before in
     let a = last .before .args in
     ap length (last .loop .inv .2) ∙ length-sets (a .out .now) (a .at) (take (last .loop .i) (a .word .now))
 
--- src/lib.rt:21:1
+-- src/lib.rt:22:1
 returns : tie.Need-returns Inv-loop μ-loop
 returns c =
     let last = c .before in

@@ -3,31 +3,31 @@ use borrow.Author.Needs.{needs}
 use Rattle.text.proofs.z_line.Statement.{statement}
 use Rattle.text.proofs.z_line.Tie as tie
 
--- src/lib.rt:110:46
+-- src/lib.rt:226:46
 slice-aggregate-put-counted : tie.Need-slice-aggregate-put-counted
 slice-aggregate-put-counted c = search needs
 
--- src/lib.rt:110:9
+-- src/lib.rt:226:9
 put-counted-requires : tie.Need-put-counted-requires
 put-counted-requires c κs = search needs
 
--- src/lib.rt:111:9
+-- src/lib.rt:227:9
 put-requires : tie.Need-put-requires
 put-requires c κs = search needs
 
--- src/lib.rt:112:9
+-- src/lib.rt:228:9
 put-hex-requires : tie.Need-put-hex-requires
 put-hex-requires c κs = search needs
 
--- src/lib.rt:113:5
+-- src/lib.rt:229:5
 put-requires-2 : tie.Need-put-requires-2
 put-requires-2 c κs = search needs
 
--- src/lib.rt:107:1
+-- src/lib.rt:223:1
 same-length : tie.Need-same-length
 same-length c = search needs
 
--- src/lib.rt:107:1
+-- src/lib.rt:223:1
 returns : tie.Need-returns
 returns c = row-stored (c .before .before .before .before .before .before .before .before .before .before .before .before .before .before .before .before .before .before .before .args .out .now) (c .before .before .before .before .before .before .before .before .before .before .before .before .before .before .before .put-counted .last .0) (c .before .before .before .before .before .before .before .before .before .before .before .put .last .0) (c .before .before .before .before .before .before .put-hex .last .0) (c .before .before .put2 .last .0) (c .before .before .before .before .before .before .before .before .before .before .before .before .before .before .before .before .before .before .before .args .at) (c .before .before .before .before .before .before .before .before .before .before .before .before .before .before .before .put-counted .result) (c .before .before .before .before .before .before .before .before .before .before .before .put .result) (c .before .before .before .before .before .before .put-hex .result) (c .before .before .put2 .result) (c .before .before .before .before .before .before .before .before .before .before .before .before .before .before .before .before .before .before .before .args .row) (c .before .before .before .before .before .before .before .before .before .before .before .before .before .before .before .before .before .before .before .args .bytes .now) (c .before .before .before .before .before .before .before .before .before .before .before .before .before .before .before .put-counted .ensures .0) (c .before .before .before .before .before .before .before .before .before .before .before .put .ensures) (c .before .before .before .before .before .before .put-hex .ensures .0) (c .before .before .put2 .ensures)
 
