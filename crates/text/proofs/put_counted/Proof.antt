@@ -18,7 +18,12 @@ same-length c = search needs
 
 -- src/lib.rt:125:1
 returns : tie.Need-returns
-returns c = stored-counted (c .before .before .before .before .before .before .before .before .before .before .args .out .now) (c .before .before .before .before .before .before .put-word .last .0) (c .before .before .put-decimal .last .0) (c .before .before .before .before .before .before .before .before .before .before .args .at) (c .before .before .before .before .before .before .put-word .result) (c .before .before .put-decimal .result) (c .before .before .before .before .before .before .before .before .before .before .args .word .now) (digits (c .before .before .before .before .before .before .before .before .before .before .args .n)) (c .before .before .before .before .before .before .put-word .ensures) (c .before .before .put-decimal .ensures .0) (c .before .before .put-decimal .ensures .1)
+returns c =
+    let a = c .before .before .before .before .before .before .before .before .before .before .args in
+    let put-word = c .before .before .before .before .before .before .put-word in
+    let put-decimal = c .before .before .put-decimal in
+    stored-counted (a .out .now) (put-word .last .0) (put-decimal .last .0) (a .at) (put-word .result) (put-decimal .result) (a .word .now)
+    (digits (a .n)) (put-word .ensures) (put-decimal .ensures .0) (put-decimal .ensures .1)
 
 pub put-counted-spec : {M : Type 1} → statement M
 put-counted-spec = tie.close (tie.spec put-word-requires put-decimal-requires same-length returns)

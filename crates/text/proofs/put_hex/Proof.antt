@@ -45,7 +45,15 @@ loop-less c = search needs
 
 -- src/lib.rt:155:5
 loop-again : tie.Need-loop-again Inv-loop μ-loop
-loop-again c = (c .before .before .before .before .before .before .loop .inv .0, omega arith, hex-more (c .before .before .before .before .before .before .before .before .before .args .out .now) (c .before .before .before .before .before .before .loop .out) (c .before .before .put-hex8 .last .0) (c .before .before .before .before .before .before .before .before .before .args .at) (c .before .before .before .before .before .before .loop .i) (getD (c .before .before .before .before .before .before .before .before .before .args .bytes .now) (c .before .before .before .before .before .before .loop .i) 0) (c .before .before .before .before .before .before .before .before .before .args .bytes .now) (omega arith) refl (c .before .before .before .before .before .before .loop .inv .2) (c .before .before .put-hex8 .ensures))
+loop-again c =
+    let a = c .before .before .before .before .before .before .before .before .before .args in
+    let turn = c .before .before .before .before .before .before .loop in
+    let put-hex8 = c .before .before .put-hex8 in (
+      turn .inv .0,
+      omega arith,
+      hex-more (a .out .now) (turn .out) (put-hex8 .last .0) (a .at) (turn .i) (getD (a .bytes .now) (turn .i) 0) (a .bytes .now)
+          (omega arith) refl (turn .inv .2) (put-hex8 .ensures),
+    )
 
 -- src/lib.rt:158:10
 mul-result : tie.Need-mul-result Inv-loop μ-loop
@@ -57,11 +65,18 @@ add-result c = search needs
 
 -- src/lib.rt:150:1
 same-length : tie.Need-same-length Inv-loop μ-loop
-same-length c = ap length (c .before .loop .inv .2) ∙ length-sets (c .before .before .before .before .args .out .now) (c .before .before .before .before .args .at) (hex (take (c .before .loop .i) (c .before .before .before .before .args .bytes .now)))
+same-length c =
+    let a = c .before .before .before .before .args in
+    let turn = c .before .loop in
+    ap length (turn .inv .2) ∙ length-sets (a .out .now) (a .at) (hex (take (turn .i) (a .bytes .now)))
 
 -- src/lib.rt:150:1
 returns : tie.Need-returns Inv-loop μ-loop
-returns c = hex-all (c .before .before .before .before .args .out .now) (c .before .loop .out) (c .before .before .before .before .args .at) (c .before .loop .i) (c .before .before .before .before .args .bytes .now) (c .before .before .before .before .pre .1) (omega arith) (c .before .loop .inv .2)
+returns c =
+    let a = c .before .before .before .before .args in
+    let pre = c .before .before .before .before .pre in
+    let turn = c .before .loop in
+    hex-all (a .out .now) (turn .out) (a .at) (turn .i) (a .bytes .now) (pre .1) (omega arith) (turn .inv .2)
 
 pub put-hex-spec : {M : Type 1} → statement M
 put-hex-spec =

@@ -29,7 +29,14 @@ same-length c = search needs
 
 -- src/lib.rt:142:1
 returns : tie.Need-returns
-returns c = two-stored (c .before .before .before .before .before .before .before .before .before .before .before .args .out .now) (c .before .before .before .before .before .before .before .put8 .last .0) (c .before .before .put82 .last .0) (c .before .before .before .before .before .before .before .before .before .before .before .args .at) (c .before .before .before .before .before .before .before .before .hex-digit .result) (c .before .before .before .hex-digit2 .result) (c .before .before .before .before .before .before .before .before .before .before .before .args .b) (c .before .before .before .before .before .before .before .before .hex-digit .ensures) (c .before .before .before .hex-digit2 .ensures) (c .before .before .before .before .before .before .before .put8 .ensures) (c .before .before .put82 .ensures)
+returns c =
+    let a = c .before .before .before .before .before .before .before .before .before .before .before .args in
+    let hex-digit = c .before .before .before .before .before .before .before .before .hex-digit in
+    let put8 = c .before .before .before .before .before .before .before .put8 in
+    let hex-digit2 = c .before .before .before .hex-digit2 in
+    let put82 = c .before .before .put82 in
+    two-stored (a .out .now) (put8 .last .0) (put82 .last .0) (a .at) (hex-digit .result) (hex-digit2 .result) (a .b) (hex-digit .ensures)
+    (hex-digit2 .ensures) (put8 .ensures) (put82 .ensures)
 
 pub put-hex8-spec : {M : Type 1} → statement M
 put-hex8-spec =

@@ -21,7 +21,12 @@ same-length c = search needs
 
 -- src/lib.rt:241:1
 returns : tie.Need-returns
-returns c = file-stored (c .before .before .before .before .before .before .before .before .before .before .args .out .now) (c .before .before .before .before .before .before .put-counted .last .0) (c .before .before .put .last .0) (c .before .before .before .before .before .before .before .before .before .before .args .at) (c .before .before .before .before .before .before .put-counted .result) (c .before .before .put .result) (c .before .before .before .before .before .before .before .before .before .before .args .number) (c .before .before .before .before .before .before .put-counted .ensures .0) (c .before .before .put .ensures)
+returns c =
+    let a = c .before .before .before .before .before .before .before .before .before .before .args in
+    let put-counted = c .before .before .before .before .before .before .put-counted in
+    let put = c .before .before .put in
+    file-stored (a .out .now) (put-counted .last .0) (put .last .0) (a .at) (put-counted .result) (put .result) (a .number) (put-counted .ensures .0)
+    (put .ensures)
 
 pub refused-line-spec : {M : Type 1} → statement M
 refused-line-spec =

@@ -29,7 +29,18 @@ same-length c = search needs
 
 -- src/lib.rt:223:1
 returns : tie.Need-returns
-returns c = row-stored (c .before .before .before .before .before .before .before .before .before .before .before .before .before .before .before .before .before .before .before .args .out .now) (c .before .before .before .before .before .before .before .before .before .before .before .before .before .before .before .put-counted .last .0) (c .before .before .before .before .before .before .before .before .before .before .before .put .last .0) (c .before .before .before .before .before .before .put-hex .last .0) (c .before .before .put2 .last .0) (c .before .before .before .before .before .before .before .before .before .before .before .before .before .before .before .before .before .before .before .args .at) (c .before .before .before .before .before .before .before .before .before .before .before .before .before .before .before .put-counted .result) (c .before .before .before .before .before .before .before .before .before .before .before .put .result) (c .before .before .before .before .before .before .put-hex .result) (c .before .before .put2 .result) (c .before .before .before .before .before .before .before .before .before .before .before .before .before .before .before .before .before .before .before .args .row) (c .before .before .before .before .before .before .before .before .before .before .before .before .before .before .before .before .before .before .before .args .bytes .now) (c .before .before .before .before .before .before .before .before .before .before .before .before .before .before .before .put-counted .ensures .0) (c .before .before .before .before .before .before .before .before .before .before .before .put .ensures) (c .before .before .before .before .before .before .put-hex .ensures .0) (c .before .before .put2 .ensures)
+returns c =
+    let end = c .before .before in
+    let bytes = end .before .before .before .before in
+    let gap = bytes .before .before .before .before .before in
+    let first = gap .before .before .before .before in
+    let a = first .before .before .before .before .args in
+    let put-counted = first .put-counted in
+    let put = gap .put in
+    let put-hex = bytes .put-hex in
+    let put2 = end .put2 in
+    row-stored (a .out .now) (put-counted .last .0) (put .last .0) (put-hex .last .0) (put2 .last .0) (a .at) (put-counted .result) (put .result)
+    (put-hex .result) (put2 .result) (a .row) (a .bytes .now) (put-counted .ensures .0) (put .ensures) (put-hex .ensures .0) (put2 .ensures)
 
 pub z-line-spec : {M : Type 1} → statement M
 z-line-spec =
