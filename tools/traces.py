@@ -15,6 +15,8 @@ LAST = (1 << 64) - 1
 # a state, and a trace's third section: the steps consumed, then the state
 STATE = REGISTERS + 8
 THIRD = 4 + STATE
+# the steps of the longest trace, and those that a program takes at a time
+MOST, RUN = 1000000, 2048
 
 
 def bits(op, low, count):
@@ -403,38 +405,75 @@ def send(state, record):
     return step(state, record[0], record[1], record[3], taken(state))
 
 
-def refusal(file):
-    """The number of a file's refusal, or None."""
+def steps_in(file):
+    """The number of steps, by the table."""
+    return number_at(file, 24) // 16
+
+
+def table_refusal(file):
+    """The number of the refusal that a file's table alone brings, or None."""
     sections = number_at(file, 0)
     if len(file) < 28 or sections == 3 and len(file) < 40:
         return 5
-    n = number_at(file, 24) // 16
-    if sections not in (2, 3) or n > 2048:
-        return 6
-    head = table(n, sections)
-    third = len(head) + REGISTERS + 16 * n
-    if not file.startswith(head) or len(file) != third + (THIRD if sections == 3 else 0) or number_at(file, third) > n:
+    n = steps_in(file)
+    return 6 if sections not in (2, 3) or n > MOST or not file.startswith(table(n, sections)) else None
+
+
+def whole_refusal(file):
+    """The same for a file of three sections whose table is right, by all that follows: no step of it is run before."""
+    n = steps_in(file)
+    third = 40 + REGISTERS + 16 * n
+    if len(file) != third + THIRD or number_at(file, third) > n:
         return 6
     return 7 if any(any(r[2]) for r in records_of(file)) else None
 
 
+RECORD = struct.Struct("<BB6sQ")  # instruction, generation, padding and operand
+
+
 def records_of(file):
-    """The steps of a file whose table is right: instruction, generation, padding and operand of each."""
+    """The steps of a file that has them all."""
     at = 4 + 12 * number_at(file, 0) + REGISTERS
-    return [struct.unpack_from("<BB6sQ", file, at + 16 * i) for i in range(number_at(file, 24) // 16)]
+    return [RECORD.unpack_from(file, at + 16 * i) for i in range(steps_in(file))]
+
+
+def step_line(state, i, record):
+    return f"step {i} {send(state, record)}"
+
+
+def last_lines(start, state, n):
+    """What follows the steps of an accepted file."""
+    return [f"z {r} {z_row(state, r).hex()}" for r in range(64) if z_row(state, r) != z_row(start, r)] + [f"steps {n}"]
+
+
+def lines_as_read(file):
+    """The lines of a file of two sections whose table is right. A step is run as soon as it is read, so they may end with a refusal."""
+    n, start, steps = steps_in(file), file[28:28 + REGISTERS], file[28 + REGISTERS:]
+    lines, state = [], bytearray(start + bytes(8))
+    if len(start) < REGISTERS:
+        return ["file refused 6"]
+    for i in range(n):
+        record = steps[16 * i:16 * i + 16]
+        if len(record) < 16:
+            return lines + ["file refused 6"]
+        if any(record[2:8]):
+            return lines + ["file refused 7"]
+        lines.append(step_line(state, i, RECORD.unpack(record)))
+    return lines + (["file refused 6"] if len(steps) > 16 * n else last_lines(start, state, n))
+
+
+def resumed_lines(file):
+    """The lines of an accepted file of three sections."""
+    consumed, state, n = number_at(file, len(file) - THIRD), bytearray(file[-STATE:]), steps_in(file)
+    lines = [step_line(state, i, r) for i, r in enumerate(records_of(file)) if i >= consumed]
+    return lines + last_lines(file[40:40 + REGISTERS], state, n)
 
 
 def text(file):
-    refused = refusal(file)
-    if refused:
-        return f"file refused {refused}\n"
-    resumed, records = number_at(file, 0) == 3, records_of(file)
-    at = 40 if resumed else 28
-    start = file[at:at + REGISTERS]
-    consumed, state = (number_at(file, len(file) - THIRD), bytearray(file[-STATE:])) if resumed else (0, bytearray(start + bytes(8)))
-    lines = [f"step {i} {send(state, r)}" for i, r in enumerate(records) if i >= consumed]
-    lines += [f"z {r} {z_row(state, r).hex()}" for r in range(64) if z_row(state, r) != z_row(start, r)]
-    return "\n".join(lines + [f"steps {len(records)}"]) + "\n"
+    three = number_at(file, 0) == 3
+    refused = table_refusal(file) or three and whole_refusal(file)
+    lines = [f"file refused {refused}"] if refused else resumed_lines(file) if three else lines_as_read(file)
+    return "".join(line + "\n" for line in lines)
 
 
 def trace(registers, steps):
@@ -443,7 +482,7 @@ def trace(registers, steps):
 
 def resumed(file, consumed, state):
     """The file of three sections that goes on with a file of two after so many of its steps, from this state."""
-    return table(number_at(file, 24) // 16, 3) + file[28:] + struct.pack("<I", consumed) + bytes(state)
+    return table(steps_in(file), 3) + file[28:] + struct.pack("<I", consumed) + bytes(state)
 
 
 def cut(file, consumed, count=None):
@@ -679,40 +718,65 @@ def changed(file, at, new, size=1):
     return file[:at] + new.to_bytes(size, "little") + file[at + size:]
 
 
+def small_registers():
+    """3 and 2 in the first lanes of X and Y, so that a product changes row 0 of Z."""
+    registers = bytearray(REGISTERS)
+    registers[0], registers[512] = 3, 2
+    return registers
+
+
 def damaged():
-    """Files that are refused: by one change to a file of three steps, or by their length."""
+    """Files that are refused by their table or for want of one: by one change to a file of three steps, or by their length."""
     good = trace(bytes(REGISTERS), [call(MAC16, 1, vector=1)] * 3)
-    yield from (("short_0", b""), ("short_27", good[:27]), ("contents_alone", good[:28]), ("count_1", changed(good, 0, 1)))
+    yield from (("short_0", b""), ("short_27", good[:27]), ("count_1", changed(good, 0, 1)))
     yield from (("count_high_byte", changed(good, 3, 1)), ("count_3", changed(good, 0, 3)))
     for entry, at, offset, length in (("first", 4, 28, REGISTERS), ("second", 16, 5148, 48)):
         yield from ((f"{entry}_kind", changed(good, at, 3)), (f"{entry}_zero", changed(good, at + 2, 1)))
         yield f"{entry}_offset", changed(good, at + 4, offset + 1, 4)
         yield f"{entry}_length_short", changed(good, at + 8, length - 1, 4)
         yield f"{entry}_length_long", changed(good, at + 8, length + 1, 4)
-    yield from (("second_length_step_short", changed(good, 24, 32)), ("second_length_step_long", changed(good, 24, 64)))
+    for name, length in (("most_steps_length_long", 16 * MOST + 1), ("too_many_steps", 16 * MOST + 16), ("highest_length", (1 << 32) - 16)):
+        yield name, changed(good, 24, length, 4)
+
+
+def damaged_behind_table():
+    """Files of two sections that are refused where their reading has come to, often behind lines of steps. Of several faults the first counts."""
+    good = trace(small_registers(), [call(MAC16, 1, vector=1)] * 3)
+    middle, last = changed(good, 5168, 1), changed(good, 5182, 1)  # the padding of step 1, and of step 2
+    yield from (("contents_alone", good[:28]), ("registers_byte_short", good[:5147]), ("no_steps_and_a_byte", changed(good[:5149], 24, 0)))
+    yield from (("all_records_missing", good[:5148]), ("two_records_missing", good[:5164]))
+    yield "most_steps_missing", changed(good[:-16], 24, 16 * MOST, 4)
     yield from (("byte_short", good[:-1]), ("byte_long", good + bytes(1)), ("step_long", good + bytes(16)))
-    yield from (("padding_first", changed(good, 5150, 1)), ("padding_last", changed(good, 5187, 128)))
-    yield "padding_and_byte_long", changed(good, 5150, 1) + bytes(1)
-    yield "most_steps_and_a_byte", trace(bytes(REGISTERS), [(0, 0, 0)] * 2048) + bytes(1)
-    yield "too_many_steps", trace(bytes(REGISTERS), [(0, 0, 0)] * 2049)
+    yield from (("second_length_step_short", changed(good, 24, 32)), ("second_length_step_long", changed(good, 24, 64)))
+    yield from (("padding_first", changed(good, 5150, 1)), ("padding_middle", middle), ("padding_last", changed(good, 5187, 128)))
+    yield from (("padding_and_byte_long", changed(good, 5150, 1) + bytes(1)), ("padding_and_byte_short", middle[:-1]))
+    yield from (("padding_and_record_missing", middle[:-16]), ("padding_behind_last", changed(last, 24, 32)))
+    yield from (("cut_short", good[:5183]), ("cut_short_with_padding", last[:5183]), ("byte_short_with_padding", last[:-1]))
+
+
+def runs():
+    """Files with a step or a byte behind a whole run of steps: accepted, and refused there."""
+    run = [call(MAC16, 1, vector=1)] + [(0, 0, 0)] * (RUN - 1)
+    longer = trace(small_registers(), run + [call(MAC16, 1, vector=1, z=1)])
+    yield from (("run_and_a_step", longer), ("run_and_a_byte", trace(small_registers(), run) + bytes(1)))
+    yield from (("run_and_padding", changed(longer, len(longer) - 9, 1)), ("run_and_cut_short", longer[:-1]))
 
 
 def stopped(rng):
     """Files of three sections: what is left of a run that was stopped, at its ends and between, past refused steps, and from other states."""
     yield from ((f"resumed_{place}", cut(product(), consumed)) for place, consumed in (("at_start", 0), ("in_middle", 5), ("at_end", 14)))
-    registers = bytearray(REGISTERS)
-    registers[0], registers[512] = 3, 2
     kinds = [call(MAC16, 1, vector=1), (VECINT, 1, 1 << 54), (MAC16, 3, 0), (13, 1, 0), (VECINT, 1, 1 << 27)]  # done, no-op 1, refused 2, 3 and 4
-    whole = trace(registers, 2 * kinds)
+    whole = trace(small_registers(), 2 * kinds)
     yield "resumed_past_refused", cut(whole, 5)
     yield from (("resumed_at_last_count", cut(whole, 5, LAST)), ("resumed_before_last_count", cut(whole, 5, LAST - 1)))
     yield "resumed_from_another_state", resumed(whole, 3, rng.randbytes(STATE))
-    most = cut(trace(rng.randbytes(REGISTERS), [any_step(rng) for _ in range(2048)]), 2040)
-    yield from (("resumed_most_steps", most), ("resumed_most_steps_and_a_byte", most + bytes(1)))
+    longer = trace(rng.randbytes(REGISTERS), [any_step(rng) for _ in range(RUN + 3)])
+    last = cut(longer, RUN)
+    yield from (("resumed_behind_run", last), ("resumed_behind_run_and_a_byte", last + bytes(1)), ("resumed_run_and_a_step", cut(longer, 2)))
 
 
 def damaged_third():
-    """Files of three sections that are refused: by one change to one of three steps, two of them consumed, or by their length."""
+    """Files of three sections that are refused, before any line: by changes to one of three steps, two of them consumed, or by their length."""
     good = cut(trace(bytes(REGISTERS), [call(MAC16, 1, vector=1)] * 3), 2)
     at = 5160 + 48
     above = changed(good, at, 4)
@@ -721,6 +785,12 @@ def damaged_third():
     yield from (("third_length", changed(good, 36, THIRD - 1, 4)), ("third_byte_short", good[:-1]), ("third_byte_long", good + bytes(1)))
     yield from (("consumed_above", above), ("padding_consumed", changed(good, 5162, 1)))
     yield "padding_and_consumed_above", changed(above, 5162, 1)
+    left = changed(good, at - 9, 1)
+    yield from (("padding_left", left), ("padding_left_and_byte_short", left[:-1]), ("padding_left_and_byte_long", left + bytes(1)))
+    for place, length in (("behind_table", 40), ("in_registers", 5159), ("in_steps", at - 1), ("behind_steps", at), ("behind_consumed", at + 4)):
+        yield f"three_sections_cut_{place}", left[:length]
+    for name, n in (("most_steps_missing", MOST), ("too_many_steps", MOST + 1), ("highest_length", (1 << 28) - 1)):
+        yield f"three_sections_{name}", changed(changed(good, 24, 16 * n, 4), 32, (5160 + 16 * n) % (1 << 32), 4)
 
 
 def stored():
@@ -730,10 +800,12 @@ def stored():
     there, back = call(MAC16, 1, vector=1, z=9), call(VECINT, 1, alu=1, x_signed=1, y_signed=1, z=9)
     yield "changed_back", trace(rng.randbytes(REGISTERS), [there, back])
     yield "answers", answers(rng)
-    yield "most_steps", trace(rng.randbytes(REGISTERS), [any_step(rng) for _ in range(2048)])
+    yield "whole_run", trace(rng.randbytes(REGISTERS), [any_step(rng) for _ in range(RUN)])
     yield "mixed_widths", mixed_widths(rng)
     yield "indexed_loads", indexed_loads(rng)
     yield from damaged()
+    yield from damaged_behind_table()
+    yield from runs()
     yield from stopped(rng)
     yield from damaged_third()
     yield from floats(random.Random(19))
@@ -750,7 +822,5 @@ def write(crate, traces, named, unread):
 
 
 if __name__ == "__main__":
-    sample = bytearray(REGISTERS)
-    sample[0], sample[512] = 3, 2
-    write("amx_trace", [("sample.trace", trace(sample, [(MAC16, 1, 1 << 63), (VECINT, 1, 1 << 54)]))], False, [])
+    write("amx_trace", [("sample.trace", trace(small_registers(), [(MAC16, 1, 1 << 63), (VECINT, 1, 1 << 54)]))], False, [])
     write("traces", [(name + ".trace", file) for name, file in stored()], True, ["missing.trace", "."])

@@ -186,11 +186,13 @@ pub fn normal(call: Call) -> Result<u64, Answer> {
 /// assert_eq!(state.count(), 2);
 /// ```
 pub fn run(state: &mut State, calls: &[Call]) -> Vec<Answer> {
-    let send = |&call: &Call| {
-        let serial = state.count();
-        step(state, call, serial)
-    };
-    calls.iter().map(send).collect()
+    calls.iter().map(|&call| step_due(state, call)).collect()
+}
+
+/// A call with the serial due.
+pub(crate) fn step_due(state: &mut State, call: Call) -> Answer {
+    let serial = state.count();
+    step(state, call, serial)
 }
 
 fn answered(number: u64) -> Answer {

@@ -5,7 +5,8 @@
 //! - [`Answer`] tells a step that was done from a no-op and a refusal, with the reason.
 //! - [`Mac16`], [`Vecint`], [`Vecfp`] and [`Fms64`] build operands by field; [`explain`] goes back, with the ignored bits; [`normal`]
 //!   clears those.
-//! - [`Trace`] reads and writes trace files, whole ones and such as go on from a [`Checkpoint`]; [`text`] does so with their texts.
+//! - [`Trace`] holds a trace file, a whole one or one that goes on from a [`Checkpoint`]; [`TraceReader`], [`TraceWriter`] and [`write_run`]
+//!   read, write and run one step by step, of up to 1,000,000; [`text`] does so with their texts.
 //! - [`mod@reference`] is a second program for the same pages, whose floats are whole numbers ([`rounding`]). Nothing here relies on it but
 //!   [`lane_grid`]; the `compare` program runs both.
 //!
@@ -57,6 +58,7 @@ pub mod random;
 pub mod reference;
 pub mod rounding;
 mod state;
+mod stream;
 pub mod text;
 mod trace;
 
@@ -65,4 +67,5 @@ pub use call::{Call, Generation, Instruction, checkpoint_bytes, normal, run, ste
 pub use explain::{Explanation, explain, lane_grid};
 pub use operand::{Field, FieldError, Float, Fms64, IndexBits, Mac16, Side, Vecfp, Vecint, Vectors, When, fields, with_field};
 pub use state::{REGISTER_BYTES, Register, STATE_LENGTH, State, Width};
-pub use trace::{CHECKPOINT_LENGTH, Checkpoint, FileRefusal, NoCheckpoint, NoRecord, Record, Trace, TraceFull};
+pub use stream::{ReadError, TraceReader, TraceWriter, WriteError, print_trace, write_run};
+pub use trace::{CHECKPOINT_LENGTH, Checkpoint, FileRefusal, NoCheckpoint, NoRecord, Record, Trace, TraceFull, TraceHeader};

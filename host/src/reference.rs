@@ -586,54 +586,64 @@ fn u32_at(file: &[u8], at: usize) -> usize {
     number(&file[at..at + 4], false) as usize
 }
 
-/// An accepted trace file.
-struct Opened<'a> {
-    /// The starting registers.
-    start: &'a [u8],
-    /// The steps, 16 bytes each.
-    records: &'a [u8],
-    /// How many of them are consumed, and the state to go on from.
-    consumed: usize,
-    state: Vec<u8>,
-}
+/// The most steps of a trace file.
+const MOST: usize = 1_000_000;
 
-/// The sections of a trace file, or the number of its refusal.
-fn opened(file: &[u8]) -> Result<Opened<'_>, u64> {
+const TOO_SHORT: u64 = 5;
+const TABLE: u64 = 6;
+const PADDING: u64 = 7;
+
+/// How many sections and steps the table of a file tells, or the number of its refusal. The bodies are not looked at.
+fn table(file: &[u8]) -> Result<(usize, usize), u64> {
     if file.len() < 28 {
-        return Err(5);
+        return Err(TOO_SHORT);
     }
     let sections = u32_at(file, 0);
     if sections == 3 && file.len() < 40 {
-        return Err(5);
+        return Err(TOO_SHORT);
     }
     if sections != 2 && sections != 3 {
-        return Err(6);
+        return Err(TABLE);
     }
     let entry = |at| (u16_at(file, at), u16_at(file, at + 2), u32_at(file, at + 4), u32_at(file, at + 8));
     let first = if sections == 2 { 28 } else { 40 };
     let second = first + REGISTERS;
-    let (kind, zero, offset, length) = entry(16);
-    let third = second + length;
-    let steps = length / 16;
-    if entry(4) != (1, 0, first, REGISTERS) || (kind, zero, offset) != (2, 0, second) || length != 16 * steps || steps > 2_048 {
-        return Err(6);
+    let steps = u32_at(file, 24) / 16;
+    let third = second + 16 * steps;
+    if entry(4) != (1, 0, first, REGISTERS) || entry(16) != (2, 0, second, 16 * steps) || steps > MOST {
+        return Err(TABLE);
     }
-    if sections == 2 && file.len() != third {
-        return Err(6);
+    if sections == 3 && entry(28) != (3, 0, third, CHECKPOINT) {
+        return Err(TABLE);
     }
-    if sections == 3 && (entry(28) != (3, 0, third, CHECKPOINT) || file.len() != third + CHECKPOINT || u32_at(file, third) > steps) {
-        return Err(6);
+    Ok((sections, steps))
+}
+
+/// The starting registers and what follows them, of a file of so many sections.
+fn bodies(file: &[u8], sections: usize) -> Result<(&[u8], &[u8]), u64> {
+    file[4 + 12 * sections..].split_at_checked(REGISTERS).ok_or(TABLE)
+}
+
+/// A record that is there and whose padding is 0.
+fn record_at(records: &[u8], place: usize) -> Result<&[u8], u64> {
+    let record = records.get(16 * place..16 * place + 16).ok_or(TABLE)?;
+    if record[2..8] == [0; 6] { Ok(record) } else { Err(PADDING) }
+}
+
+/// The steps consumed and the state to go on from, of the bodies behind the starting registers, which are checked whole.
+fn resumed(records: &[u8], steps: usize) -> Result<(usize, Vec<u8>), u64> {
+    if records.len() != 16 * steps + CHECKPOINT || u32_at(records, 16 * steps) > steps {
+        return Err(TABLE);
     }
-    let (start, records) = (&file[first..second], &file[second..third]);
-    if records.chunks(16).any(|record| record[2..8] != [0; 6]) {
-        return Err(7);
+    for place in 0..steps {
+        record_at(records, place)?;
     }
-    let (consumed, state) = match sections {
-        // a run starts at count 0
-        2 => (0, [start, &[0; 8]].concat()),
-        _ => (u32_at(file, third), file[third + 4..].to_vec()),
-    };
-    Ok(Opened { start, records, consumed, state })
+    Ok((u32_at(records, 16 * steps), records[16 * steps + 4..].to_vec()))
+}
+
+/// A state at count 0, which a run starts from.
+fn at_count_0(start: &[u8]) -> Vec<u8> {
+    [start, &[0; 8]].concat()
 }
 
 /// The step of a record, with the serial due.
@@ -643,31 +653,45 @@ fn step_due(state: &mut [u8], record: &[u8]) -> u64 {
 }
 
 /// The text that the trace program prints for a file: the lines of the steps not yet consumed and of changed rows, or the refusal of the
-/// file.
+/// file. Two sections are refused where what is wrong is met, after the lines of the steps before it; three before any line.
 pub fn trace(file: &[u8]) -> String {
-    let Opened { start, records, consumed, mut state } = match opened(file) {
-        Ok(opened) => opened,
-        Err(refusal) => return format!("file refused {refusal}\n"),
-    };
     let mut text = String::new();
-    for (place, record) in records.chunks(16).enumerate().skip(consumed) {
-        let answer = step_due(&mut state, record);
+    if let Err(refusal) = print(file, &mut text) {
+        text += &format!("file refused {refusal}\n");
+    }
+    text
+}
+
+/// Adds the lines of a file, up to what it is refused for.
+fn print(file: &[u8], text: &mut String) -> Result<(), u64> {
+    let (sections, steps) = table(file)?;
+    let (start, records) = bodies(file, sections)?;
+    let (consumed, mut state) = match sections {
+        2 => (0, at_count_0(start)),
+        _ => resumed(records, steps)?,
+    };
+    for place in consumed..steps {
+        let answer = step_due(&mut state, record_at(records, place)?);
         let words = match answer {
             REFUSED.. => format!("refused {}", answer - REFUSED),
             NO_OP.. => format!("no-op {}", answer - NO_OP),
             _ => format!("done {answer}"),
         };
-        text += &format!("step {place} {words}\n");
+        *text += &format!("step {place} {words}\n");
+    }
+    if sections == 2 && records.len() > 16 * steps {
+        return Err(TABLE);
     }
     for row in 0..64 {
         let bytes = Z + 64 * row..Z + 64 * row + 64;
         // whatever the state was that the run went on from
         if state[bytes.clone()] != start[bytes.clone()] {
             let digits: String = state[bytes].iter().map(|byte| format!("{byte:02x}")).collect();
-            text += &format!("z {row} {digits}\n");
+            *text += &format!("z {row} {digits}\n");
         }
     }
-    text + &format!("steps {}\n", records.len() / 16)
+    *text += &format!("steps {steps}\n");
+    Ok(())
 }
 
 /// Writes the third section of a trace: the steps consumed as a u32, then the state. How many bytes were written: all or none.
@@ -683,12 +707,17 @@ pub fn checkpoint(state: &[u8], consumed: u64, out: &mut [u8]) -> u64 {
 /// The three-section file of a two-section one whose run is stopped after some of its steps. None where the file is no such file, or has
 /// fewer steps.
 pub fn cut(file: &[u8], consumed: usize) -> Option<Vec<u8>> {
-    let Opened { start, records, mut state, .. } = opened(file).ok()?;
-    if u32_at(file, 0) != 2 || consumed > records.len() / 16 {
+    let (sections, steps) = table(file).ok()?;
+    let (start, records) = bodies(file, sections).ok()?;
+    if sections != 2 || records.len() != 16 * steps || consumed > steps {
         return None;
     }
-    for record in records.chunks(16).take(consumed) {
-        step_due(&mut state, record);
+    let mut state = at_count_0(start);
+    for place in 0..steps {
+        let record = record_at(records, place).ok()?;
+        if place < consumed {
+            step_due(&mut state, record);
+        }
     }
     let table = [3, 1, 40, 5_120, 2, 5_160, records.len(), 3, 5_160 + records.len(), 5_132];
     let table: Vec<u8> = table.into_iter().flat_map(|number| (number as u32).to_le_bytes()).collect();

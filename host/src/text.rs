@@ -1,4 +1,5 @@
 //! Texts of steps, for people: `assemble` makes a trace of a text, `disassemble` goes back, and the way there and back is exact.
+//! [`Assembler`] and [`write_text`] do so line by line.
 //!
 //! One line each; what follows a `#` is a comment.
 //!
@@ -21,11 +22,14 @@
 //! ```
 
 use crate::{
-    Call, Checkpoint, Generation, Instruction, NoRecord, REGISTER_BYTES, Record, Register, STATE_LENGTH, State, Trace, fields,
+    Call, Checkpoint, Generation, Instruction, NoRecord, REGISTER_BYTES, Record, Register, STATE_LENGTH, State, Trace, TraceHeader, fields,
     operand::{find, place},
     with_field,
 };
-use std::fmt;
+use std::{
+    fmt,
+    io::{self, Write},
+};
 
 /// What is wrong with a text, and in which line.
 #[derive(Clone, Debug, PartialEq, Eq)]
@@ -59,41 +63,111 @@ impl std::error::Error for TextError {}
 /// assert_eq!(floats.start().x()[..12], [0, 0, 0xc0, 0x3f, 0, 0, 0, 0x80, 0, 0, 0xc0, 0x7f]);
 /// ```
 pub fn assemble(text: &str) -> Result<Trace, TextError> {
-    let mut trace = Trace::new(State::new());
-    // the bytes of the starting state, and then of the checkpoint's
-    let mut given = [false; STATE_LENGTH];
-    for (number, line) in text.lines().enumerate() {
+    let mut assembler = Assembler::new();
+    let mut records = Vec::new();
+    for line in text.lines() {
+        records.extend(assembler.line(line)?);
+    }
+    Ok(Trace::from_parts(assembler.into_header(), records))
+}
+
+/// Takes a text line by line, and gives the record of each that is a step. The other lines make the header, which is whole after the last.
+///
+/// ```
+/// use amx::{Call, text::Assembler};
+/// let mut assembler = Assembler::new();
+/// assert_eq!(assembler.line("x: 0300  # no step"), Ok(None));
+/// assert_eq!(assembler.line("mac16 m1 vector").map(|record| record.map(Call::from)), Ok(Some(Call::new(14, 1, 1 << 63))));
+/// assert_eq!(assembler.line("mac15 m1").unwrap_err().line, 3);
+/// assert_eq!((assembler.header().records(), assembler.header().start().x()[0]), (1, 3));
+/// ```
+#[derive(Clone, Debug)]
+pub struct Assembler {
+    header: TraceHeader,
+    /// The bytes of the starting state that were given, and then of the checkpoint's.
+    given: [bool; STATE_LENGTH],
+    lines: usize,
+}
+
+impl Assembler {
+    /// Before the first line.
+    pub fn new() -> Self {
+        Assembler { header: TraceHeader::new(State::new()), given: [false; STATE_LENGTH], lines: 0 }
+    }
+
+    /// Takes the next line. After an error the text is none.
+    pub fn line(&mut self, line: &str) -> Result<Option<Record>, TextError> {
+        self.lines += 1;
         let line = line.split('#').next().unwrap_or_default().trim();
-        let assembled = match line.split_once(':') {
+        self.assemble(line).map_err(|expected| TextError { line: self.lines, expected })
+    }
+
+    /// What the lines so far describe but the records of their steps.
+    pub fn header(&self) -> &TraceHeader {
+        &self.header
+    }
+
+    /// What the text describes but the records of its steps.
+    pub fn into_header(self) -> TraceHeader {
+        self.header
+    }
+
+    fn assemble(&mut self, line: &str) -> Result<Option<Record>, String> {
+        let header = &mut self.header;
+        match line.split_once(':') {
             _ if line.is_empty() => Ok(()),
-            Some(_) if trace.records().len() > consumed(&trace) => {
+            Some(_) if header.records > header.consumed() => {
                 Err("lines of a state stand before the first step, or right after checkpoint".to_owned())
             }
-            Some((place, number)) if place.trim() == "count" => count_line(&mut trace, &mut given, number.trim()),
-            Some((place, digits)) => state_line(trace.state_mut().registers_mut(), &mut given, place.trim(), digits),
+            Some((place, number)) if place.trim() == "count" => count_line(header, &mut self.given, number.trim()),
+            Some((place, digits)) => state_line(header.state_mut().registers_mut(), &mut self.given, place.trim(), digits),
             None if line.starts_with("checkpoint") => {
-                given = [false; STATE_LENGTH];
-                checkpoint_line(&mut trace, line)
+                self.given = [false; STATE_LENGTH];
+                checkpoint_line(header, line)
             }
-            None => parse_call(line).and_then(|call| {
-                let record = Record::try_from(call).map_err(|error: NoRecord| error.to_string())?;
-                trace.push(record).map_err(|error| error.to_string())
-            }),
-        };
-        assembled.map_err(|expected| TextError { line: number + 1, expected })?;
+            None => {
+                let record = Record::try_from(parse_call(line)?).map_err(|error: NoRecord| error.to_string())?;
+                header.count_record().map_err(|error| error.to_string())?;
+                return Ok(Some(record));
+            }
+        }
+        .map(|()| None)
     }
-    Ok(trace)
+}
+
+impl Default for Assembler {
+    fn default() -> Self {
+        Assembler::new()
+    }
 }
 
 /// The text of a trace: [`assemble`] makes the same trace of it. A state is told by bytes, since it does not tell floats from numbers.
 pub fn disassemble(trace: &Trace) -> String {
-    let (above, below) = trace.records().split_at(consumed(trace));
-    let saved = trace.checkpoint().map(|checkpoint| format!("checkpoint\n{}", print_state(&checkpoint.state)));
-    print_state(trace.start()) + &print_records(above) + &saved.unwrap_or_default() + &print_records(below)
+    let mut text = Vec::new();
+    let records = trace.records().iter().copied().map(Ok::<_, io::Error>);
+    write_text(trace.header(), records, &mut text).expect("memory takes the text");
+    String::from_utf8(text).expect("the text is ASCII")
 }
 
-fn print_records(records: &[Record]) -> String {
-    records.iter().map(|&record| print_call(record.into()) + "\n").collect()
+/// Writes the text of a trace as its records come; the first error ends it, and one of the output is among them.
+pub fn write_text<E: From<io::Error>>(
+    header: &TraceHeader,
+    records: impl IntoIterator<Item = Result<Record, E>>,
+    output: &mut impl Write,
+) -> Result<(), E> {
+    let saved = header.checkpoint().map(|checkpoint| format!("checkpoint\n{}", print_state(&checkpoint.state))).unwrap_or_default();
+    output.write_all(print_state(header.start()).as_bytes())?;
+    for (place, record) in records.into_iter().enumerate() {
+        let record = record?;
+        if place == header.consumed() {
+            output.write_all(saved.as_bytes())?;
+        }
+        writeln!(output, "{}", print_call(record.into()))?;
+    }
+    if header.consumed() == header.records() {
+        output.write_all(saved.as_bytes())?;
+    }
+    Ok(())
 }
 
 /// The lines of a state: a count that is not 0, and the rows that are not all 0.
@@ -113,11 +187,6 @@ fn print_state(state: &State) -> String {
         };
     }
     text
-}
-
-/// The steps of a trace that are consumed.
-fn consumed(trace: &Trace) -> usize {
-    trace.checkpoint().map_or(0, |checkpoint| checkpoint.consumed)
 }
 
 /// The call that a line of text describes.
@@ -244,26 +313,26 @@ fn unnamed(instruction: Instruction, generation: Generation, operand: u64, value
 }
 
 /// `checkpoint`: the steps above are consumed.
-fn checkpoint_line(trace: &mut Trace, line: &str) -> Result<(), String> {
+fn checkpoint_line(header: &mut TraceHeader, line: &str) -> Result<(), String> {
     if line != "checkpoint" {
         return Err(format!("expected checkpoint alone, after the steps that are consumed, not {line:?}"));
     }
-    if trace.checkpoint().is_some() {
+    if header.checkpoint.is_some() {
         return Err("checkpoint is given twice".to_owned());
     }
-    let checkpoint = Checkpoint { consumed: trace.records().len(), state: State::new() };
-    trace.set_checkpoint(checkpoint).map_err(|error| error.to_string())
+    header.checkpoint = Some(Checkpoint { consumed: header.records, state: State::new() });
+    Ok(())
 }
 
 /// `count: N`, of a checkpoint's state.
-fn count_line(trace: &mut Trace, given: &mut [bool], number: &str) -> Result<(), String> {
-    if trace.checkpoint().is_none() {
+fn count_line(header: &mut TraceHeader, given: &mut [bool], number: &str) -> Result<(), String> {
+    if header.checkpoint.is_none() {
         return Err("a run starts at count 0: a count stands after checkpoint".to_owned());
     }
     if std::mem::replace(&mut given[REGISTER_BYTES], true) {
         return Err("count is given twice".to_owned());
     }
-    trace.state_mut().set_count(parse_number(number)?);
+    header.state_mut().set_count(parse_number(number)?);
     Ok(())
 }
 
@@ -507,8 +576,8 @@ z 0x3f: 00 5	0  # a comment: with a colon
             let (at, said) = expected(text);
             assert!(at == line && said.contains(words), "{text:?}: line {at}: {said}");
         }
-        let (line, said) = expected(&"mac16 m1\n".repeat(2_049));
-        assert_eq!((line, said.as_str()), (2_049, "a trace holds at most 2048 steps"));
+        let (line, said) = expected(&"raw 0 0 0\n".repeat(1_000_001));
+        assert_eq!((line, said.as_str()), (1_000_001, "a trace holds at most 1000000 steps"));
         let (_, said) = expected(&format!("z 1: {}", "00".repeat(65)));
         assert_eq!(said, "z 1 has 64 bytes, not 65");
         for (place, lanes) in [("x f32", 128), ("y f64", 64), ("x 7 f32", 16), ("z 63 f64", 8)] {

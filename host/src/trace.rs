@@ -1,10 +1,14 @@
-use crate::{Answer, Call, REGISTER_BYTES, Register, STATE_LENGTH, State, checkpoint_bytes, run};
-use std::fmt;
+use crate::{Answer, Call, REGISTER_BYTES, ReadError, STATE_LENGTH, State, TraceReader, TraceWriter, checkpoint_bytes, run, write_run};
+use std::{
+    fmt,
+    io::{self, Cursor},
+};
 
 /// The bytes of a checkpoint, the third section of a trace file: a u32, then the state.
 pub const CHECKPOINT_LENGTH: usize = size_of::<u32>() + STATE_LENGTH;
 
-const RECORD: usize = 16;
+/// The bytes of a record.
+pub(crate) const RECORD: usize = 16;
 
 /// A step as a trace file holds it: a call whose instruction and generation are bytes.
 #[derive(Clone, Copy, Debug, PartialEq, Eq, Hash)]
@@ -26,7 +30,21 @@ pub struct Checkpoint {
     pub state: State,
 }
 
-/// Starting registers and up to 2,048 records. A run starts at count 0; one that was stopped goes on from a [`Checkpoint`].
+/// What a trace has but its records.
+#[derive(Clone, Debug, PartialEq, Eq)]
+pub struct TraceHeader {
+    /// At count 0.
+    pub(crate) start: State,
+    /// Has consumed no more than there are records.
+    pub(crate) checkpoint: Option<Checkpoint>,
+    /// How many there are.
+    pub(crate) records: usize,
+}
+
+/// Starting registers and up to 1,000,000 records. A run starts at count 0; one that was stopped goes on from a [`Checkpoint`].
+///
+/// It is held whole: 16 bytes for a record, so 16 MB for the longest, as much again in [`to_bytes`](Self::to_bytes) and more in
+/// [`text`](Self::text). [`TraceReader`], [`TraceWriter`] and [`write_run`] hold no more than a buffer.
 ///
 /// ```
 /// use amx::{Record, State, Trace};
@@ -44,10 +62,9 @@ pub struct Checkpoint {
 /// ```
 #[derive(Clone, Debug, PartialEq, Eq)]
 pub struct Trace {
-    start: State,
+    /// Has as many records as there are.
+    header: TraceHeader,
     records: Vec<Record>,
-    /// Has consumed no more than there are records.
-    checkpoint: Option<Checkpoint>,
 }
 
 /// Why a file is no trace. The discriminant is the refusal's number.
@@ -61,7 +78,7 @@ pub enum FileRefusal {
     Padding = 7,
 }
 
-/// A trace holds no more than 2,048 records.
+/// A trace holds no more than 1,000,000 records.
 #[derive(Clone, Copy, Debug, PartialEq, Eq)]
 pub struct TraceFull;
 
@@ -86,14 +103,19 @@ pub struct NoRecord(
     pub Call,
 );
 
-impl Trace {
-    /// The most records that a trace holds.
-    pub const MAX_RECORDS: usize = 2_048;
+impl Checkpoint {
+    /// Fits a trace of so many records.
+    pub(crate) fn consumes_no_more_than(&self, records: usize) -> Result<(), NoCheckpoint> {
+        let consumed = self.consumed;
+        if consumed > records { Err(NoCheckpoint::TooFewRecords { consumed, records }) } else { Ok(()) }
+    }
+}
 
-    /// A trace of no records, from a state's registers: a trace holds no count.
-    pub fn new(mut start: State) -> Self {
+impl TraceHeader {
+    /// Of no records, from a state's registers.
+    pub(crate) fn new(mut start: State) -> Self {
         start.set_count(0);
-        Trace { start, records: Vec::new(), checkpoint: None }
+        TraceHeader { start, checkpoint: None, records: 0 }
     }
 
     /// The starting state, whose count is 0.
@@ -101,17 +123,72 @@ impl Trace {
         &self.start
     }
 
-    /// The starting registers, to be written.
-    pub fn registers_mut(&mut self) -> &mut [u8; REGISTER_BYTES] {
-        self.start.registers_mut()
+    /// Where a run goes on from, of a trace that was stopped.
+    pub fn checkpoint(&self) -> Option<&Checkpoint> {
+        self.checkpoint.as_ref()
     }
 
-    /// The state that a run goes on from, to be written.
+    /// How many records there are, consumed ones too.
+    pub fn records(&self) -> usize {
+        self.records
+    }
+
+    /// How many of them are consumed.
+    pub fn consumed(&self) -> usize {
+        self.checkpoint.as_ref().map_or(0, |checkpoint| checkpoint.consumed)
+    }
+
+    /// The state that a run goes on from: the checkpoint's, or else the starting one.
+    pub fn state(&self) -> &State {
+        self.checkpoint.as_ref().map_or(&self.start, |checkpoint| &checkpoint.state)
+    }
+
+    /// The same, to be written.
     pub(crate) fn state_mut(&mut self) -> &mut State {
         match &mut self.checkpoint {
             Some(checkpoint) => &mut checkpoint.state,
             None => &mut self.start,
         }
+    }
+
+    /// Counts one more record.
+    pub(crate) fn count_record(&mut self) -> Result<(), TraceFull> {
+        if self.records == Trace::MAX_RECORDS {
+            return Err(TraceFull);
+        }
+        self.records += 1;
+        Ok(())
+    }
+}
+
+impl Trace {
+    /// The most records that a trace holds.
+    pub const MAX_RECORDS: usize = 1_000_000;
+
+    /// A trace of no records, from a state's registers: a trace holds no count.
+    pub fn new(start: State) -> Self {
+        Trace { header: TraceHeader::new(start), records: Vec::new() }
+    }
+
+    /// Of these records, which are as many as the header has.
+    pub(crate) fn from_parts(header: TraceHeader, records: Vec<Record>) -> Self {
+        assert_eq!(header.records, records.len(), "a header counts its records");
+        Trace { header, records }
+    }
+
+    /// What the trace has but its records.
+    pub fn header(&self) -> &TraceHeader {
+        &self.header
+    }
+
+    /// The starting state, whose count is 0.
+    pub fn start(&self) -> &State {
+        &self.header.start
+    }
+
+    /// The starting registers, to be written.
+    pub fn registers_mut(&mut self) -> &mut [u8; REGISTER_BYTES] {
+        self.header.start.registers_mut()
     }
 
     /// The records, in order.
@@ -121,25 +198,20 @@ impl Trace {
 
     /// Adds a record at the end.
     pub fn push(&mut self, record: Record) -> Result<(), TraceFull> {
-        if self.records.len() == Self::MAX_RECORDS {
-            return Err(TraceFull);
-        }
+        self.header.count_record()?;
         self.records.push(record);
         Ok(())
     }
 
     /// Where a run goes on from, of a trace that was stopped.
     pub fn checkpoint(&self) -> Option<&Checkpoint> {
-        self.checkpoint.as_ref()
+        self.header.checkpoint()
     }
 
     /// Has a run go on from here, and no more from the start or from another checkpoint.
     pub fn set_checkpoint(&mut self, checkpoint: Checkpoint) -> Result<(), NoCheckpoint> {
-        let (consumed, records) = (checkpoint.consumed, self.records.len());
-        if consumed > records {
-            return Err(NoCheckpoint::TooFewRecords { consumed, records });
-        }
-        self.checkpoint = Some(checkpoint);
+        checkpoint.consumes_no_more_than(self.records.len())?;
+        self.header.checkpoint = Some(checkpoint);
         Ok(())
     }
 
@@ -161,16 +233,17 @@ impl Trace {
     /// # Ok::<(), Box<dyn std::error::Error>>(())
     /// ```
     pub fn cut(&self, consumed: usize) -> Result<Self, NoCheckpoint> {
-        if self.checkpoint.is_some() {
+        if self.header.checkpoint.is_some() {
             return Err(NoCheckpoint::Resumed);
         }
-        let (state, _) = run_records(&self.start, self.records.iter().take(consumed));
+        let (state, _) = run_records(self.start(), self.records.iter().take(consumed));
         let mut rest = self.clone();
         rest.set_checkpoint(Checkpoint { consumed, state })?;
         Ok(rest)
     }
 
-    /// Reads a trace file, of two sections or three: the refusals are tested in their order.
+    /// Reads a trace file of two sections or three, as [`TraceReader`] does: of two sections the first refusal that is met counts, and three
+    /// are tested for the refusals in their order.
     ///
     /// ```
     /// use amx::{FileRefusal, State, Trace};
@@ -181,61 +254,43 @@ impl Trace {
     /// assert_eq!(Trace::from_bytes(&file[..39]), Err(FileRefusal::TooShort));
     /// ```
     pub fn from_bytes(file: &[u8]) -> Result<Self, FileRefusal> {
-        let sections = if file.first_chunk() == Some(&3u32.to_le_bytes()) { 3 } else { 2 };
-        let (table, bodies) = file.split_at_checked(table_length(sections)).ok_or(FileRefusal::TooShort)?;
-        let (start, bodies) = bodies.split_first_chunk().ok_or(FileRefusal::Table)?;
-        let (records, checkpoint) = match sections {
-            3 => bodies.split_last_chunk().map(|(records, checkpoint)| (records, Some(checkpoint))).ok_or(FileRefusal::Table)?,
-            _ => (bodies, None),
+        let read = || {
+            let mut reader = TraceReader::seekable(Cursor::new(file))?;
+            let records = reader.by_ref().collect::<Result<_, _>>()?;
+            Ok(Trace { header: reader.into_header(), records })
         };
-        let (records, left) = records.as_chunks::<RECORD>();
-        let checkpoint = checkpoint.map(checkpoint_from);
-        let consumed = checkpoint.as_ref().map_or(0, |checkpoint| checkpoint.consumed);
-        let n = records.len();
-        if !left.is_empty() || n > Self::MAX_RECORDS || table != table_of(n, sections) || consumed > n {
-            return Err(FileRefusal::Table);
-        }
-        let records = records.iter().map(record_from).collect::<Option<_>>().ok_or(FileRefusal::Padding)?;
-        Ok(Trace { start: State::from_registers(*start), records, checkpoint })
+        read().map_err(|error| match error {
+            ReadError::Refused(refusal) => refusal,
+            ReadError::Once | ReadError::Io(_) => unreachable!("bytes can be read, and twice"),
+        })
     }
 
     /// The trace file: of three sections where there is a checkpoint, else of two.
     pub fn to_bytes(&self) -> Vec<u8> {
-        let mut file = table_of(self.records.len(), if self.checkpoint.is_some() { 3 } else { 2 });
-        file.extend(self.start.registers());
-        for record in &self.records {
-            file.extend([record.instruction, record.generation, 0, 0, 0, 0, 0, 0]);
-            file.extend(record.operand.to_le_bytes());
-        }
-        if let Some(Checkpoint { consumed, state }) = &self.checkpoint {
-            let mut section = [0; CHECKPOINT_LENGTH];
-            let written = checkpoint_bytes(state.bytes(), *consumed as u64, &mut section);
-            assert_eq!(written, CHECKPOINT_LENGTH, "libamx.a wrote no checkpoint, though there is room and few steps are consumed");
-            file.extend(section);
-        }
-        file
+        let n = self.records.len();
+        let writer = match self.checkpoint() {
+            Some(checkpoint) => TraceWriter::resumed(Vec::new(), self.start(), n, checkpoint.clone()),
+            None => TraceWriter::new(Vec::new(), self.start(), n),
+        };
+        let written = writer.and_then(|mut writer| {
+            self.records.iter().try_for_each(|&record| writer.push(record))?;
+            writer.finish()
+        });
+        written.expect("a trace has as many records as it counts, and memory takes them")
     }
 
     /// Runs the records that are not consumed in turn, from the checkpoint or else from the starting state, each with the serial then due:
     /// the end state, and the answer of each.
     pub fn run(&self) -> (State, Vec<Answer>) {
-        match &self.checkpoint {
-            Some(checkpoint) => run_records(&checkpoint.state, self.records.iter().skip(checkpoint.consumed)),
-            None => run_records(&self.start, self.records.iter()),
-        }
+        run_records(self.header.state(), self.records.iter().skip(self.header.consumed()))
     }
 
-    /// The text of a run: a line for each step that it takes, one for each row of Z that differs from the start (not from the checkpoint),
-    /// and the number of steps, consumed ones too.
+    /// The text of a run, as [`write_run`] writes it.
     pub fn text(&self) -> String {
-        let (state, answers) = self.run();
-        let consumed = self.records.len() - answers.len();
-        let mut text: String = (consumed..).zip(&answers).map(|(place, answer)| format!("step {place} {answer}\n")).collect();
-        for row in (0..64).filter(|&row| state.row(Register::Z(row)) != self.start.row(Register::Z(row))) {
-            let digits: String = state.row(Register::Z(row)).iter().map(|byte| format!("{byte:02x}")).collect();
-            text += &format!("z {row} {digits}\n");
-        }
-        text + &format!("steps {}\n", self.records.len())
+        let mut text = Vec::new();
+        let records = self.records.iter().copied().map(Ok::<_, io::Error>);
+        write_run(&self.header, records, &mut text).expect("memory takes the text");
+        String::from_utf8(text).expect("the text is ASCII")
     }
 }
 
@@ -247,12 +302,12 @@ fn run_records<'a>(state: &State, records: impl Iterator<Item = &'a Record>) -> 
     (state, answers)
 }
 
-fn table_length(sections: usize) -> usize {
+pub(crate) const fn table_length(sections: usize) -> usize {
     4 + 12 * sections
 }
 
 /// The table of a trace of n records: the count of sections, then kind, zero, offset and length of each.
-fn table_of(n: usize, sections: usize) -> Vec<u8> {
+pub(crate) fn table_of(n: usize, sections: usize) -> Vec<u8> {
     let lengths = [REGISTER_BYTES, RECORD * n, CHECKPOINT_LENGTH];
     let mut words = vec![sections];
     let mut offset = table_length(sections);
@@ -264,14 +319,29 @@ fn table_of(n: usize, sections: usize) -> Vec<u8> {
 }
 
 /// A checkpoint, whatever it has consumed.
-fn checkpoint_from(bytes: &[u8; CHECKPOINT_LENGTH]) -> Checkpoint {
+pub(crate) fn checkpoint_from(bytes: &[u8; CHECKPOINT_LENGTH]) -> Checkpoint {
     let (consumed, state) = bytes.split_first_chunk().expect("what is consumed comes first");
     let state = state.try_into().expect("the state is the rest");
     Checkpoint { consumed: u32::from_le_bytes(*consumed) as usize, state: State::from_bytes(state) }
 }
 
+/// The bytes of a checkpoint, by the proved unit.
+pub(crate) fn bytes_of_checkpoint(checkpoint: &Checkpoint) -> [u8; CHECKPOINT_LENGTH] {
+    let mut section = [0; CHECKPOINT_LENGTH];
+    let written = checkpoint_bytes(checkpoint.state.bytes(), checkpoint.consumed as u64, &mut section);
+    assert_eq!(written, CHECKPOINT_LENGTH, "libamx.a wrote no checkpoint, though there is room and few steps are consumed");
+    section
+}
+
+pub(crate) fn bytes_of_record(record: Record) -> [u8; RECORD] {
+    let mut bytes = [0; RECORD];
+    bytes[..2].copy_from_slice(&[record.instruction, record.generation]);
+    bytes[8..].copy_from_slice(&record.operand.to_le_bytes());
+    bytes
+}
+
 /// A record whose padding is 0.
-fn record_from(bytes: &[u8; RECORD]) -> Option<Record> {
+pub(crate) fn record_from(bytes: &[u8; RECORD]) -> Option<Record> {
     let [instruction, generation, 0, 0, 0, 0, 0, 0, operand @ ..] = *bytes else { return None };
     Some(Record { instruction, generation, operand: u64::from_le_bytes(operand) })
 }
@@ -349,15 +419,17 @@ mod tests {
 
     #[test]
     fn a_trace_of_none_and_of_the_most_records_is_read_back() {
-        for n in [0, 1, 2_048] {
+        for n in [0, 1, 2_048, 2_049] {
             let trace = Trace::from_bytes(&of(n)).unwrap();
             assert_eq!((trace.records().len(), trace.to_bytes()), (n, of(n)));
         }
-        assert_eq!(Trace::from_bytes(&of(2_048)).unwrap().push(Record { instruction: 0, generation: 0, operand: 0 }), Err(TraceFull));
-        let mut longer = of(2_048);
+        let mut longer = of(1_000_000);
+        let mut most = Trace::from_bytes(&longer).unwrap();
+        assert!(most == trace(1_000_000));
+        assert_eq!(most.push(Record { instruction: 0, generation: 0, operand: 0 }), Err(TraceFull));
         longer.extend([0; 16]);
-        longer[24..28].copy_from_slice(&(16u32 * 2_049).to_le_bytes());
-        assert_eq!(Trace::from_bytes(&longer), Err(FileRefusal::Table));
+        longer[24..28].copy_from_slice(&(16u32 * 1_000_001).to_le_bytes());
+        assert_eq!(Trace::from_bytes(&longer).map(drop), Err(FileRefusal::Table));
     }
 
     #[test]

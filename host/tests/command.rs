@@ -2,8 +2,10 @@
 use amx::{Checkpoint, Record, State, Trace, random::Random, reference, text};
 use std::{
     fs,
+    io::Write,
     path::{Path, PathBuf},
-    process::{Command, Output},
+    process::{Command, Output, Stdio},
+    thread,
 };
 
 /// A directory of the test's own, removed afterwards.
@@ -37,6 +39,18 @@ impl Drop for Room {
 
 fn amx(arguments: &[&str]) -> Output {
     Command::new(env!("CARGO_BIN_EXE_amx")).args(arguments).output().unwrap()
+}
+
+/// The command, fed by a pipe that hands over a few bytes at a time.
+fn fed(arguments: &[&str], bytes: &[u8], piece: usize) -> Output {
+    let mut command = Command::new(env!("CARGO_BIN_EXE_amx"));
+    let mut child = command.args(arguments).stdin(Stdio::piped()).stdout(Stdio::piped()).stderr(Stdio::piped()).spawn().unwrap();
+    let mut input = child.stdin.take().unwrap();
+    thread::scope(|scope| {
+        // it may end before it has read all
+        scope.spawn(move || bytes.chunks(piece).try_for_each(|piece| input.write_all(piece)));
+        child.wait_with_output().unwrap()
+    })
 }
 
 fn said(arguments: &[&str]) -> String {
@@ -238,6 +252,83 @@ fn damaged_traces_are_refused_by_number() {
         let output = amx(&["run", name(&file)]);
         assert_eq!((output.status.code(), String::from_utf8(output.stdout).unwrap()), (Some(1), format!("{line}\n")));
     }
+}
+
+/// A text of steps, done and not, and the lines that they are answered with.
+fn many(steps: usize) -> (String, String) {
+    let steps =
+        || (0..steps).map(|n| [("mac16 m1 vector", "done 64"), ("vecint m1 reserved=1", "no-op 1"), ("raw 15 1 0x7", "refused 3")][n % 3]);
+    let text: String = steps().map(|(step, _)| format!("{step}\n")).collect();
+    let lines: String = steps().enumerate().map(|(place, (_, answer))| format!("step {place} {answer}\n")).collect();
+    (format!("x 0: 03\n{text}"), lines)
+}
+
+#[test]
+fn a_million_steps_are_assembled_run_cut_and_taken_apart() {
+    let room = Room::new("million");
+    let (text, lines) = many(1_000_000);
+    let (text_file, trace, rest) = (room.write("text", &text), room.0.join("trace"), room.0.join("rest"));
+    said(&["asm", name(&text_file), "-o", name(&trace)]);
+    assert_eq!(fs::metadata(&trace).unwrap().len(), 16_005_148);
+    let whole = format!("{lines}steps 1000000\n");
+    assert!(said(&["run", name(&trace)]) == whole);
+    assert!(said(&["run", name(&text_file)]) == whole);
+    assert!(said(&["dis", name(&trace)]) == text);
+    said(&["cut", name(&trace), "--after", "999999", "-o", name(&rest)]);
+    assert_eq!(said(&["run", name(&rest)]), "step 999999 done 64\nsteps 1000000\n");
+    // one more
+    fs::write(&text_file, text + "mac16 m1\n").unwrap();
+    refused(&["asm", name(&text_file), "-o", name(&rest)], "text, line 1000002: a trace holds at most 1000000 steps");
+    assert_eq!(room.names(), ["rest", "text", "trace"]);
+}
+
+#[test]
+fn what_is_wrong_with_two_sections_comes_after_the_steps_before_it() {
+    let room = Room::new("late");
+    let (text, lines) = many(4_097);
+    let (text, trace) = (room.write("text", text), room.0.join("trace"));
+    said(&["asm", name(&text), "-o", name(&trace)]);
+    let sound = fs::read(&trace).unwrap();
+    let mut padded = sound.clone();
+    padded[5_148 + 16 * 4_096 + 7] = 1;
+    let longer = [&sound[..], &[0]].concat();
+    for (bytes, steps, refusal) in
+        [(&padded[..], 4_096, 7), (&padded[..padded.len() - 1], 4_096, 6), (&longer, 4_097, 6), (&sound[..5_148], 0, 6)]
+    {
+        let file = room.write("damaged", bytes);
+        let before: String = lines.split_inclusive('\n').take(steps).collect();
+        let output = amx(&["run", name(&file)]);
+        assert_eq!((output.status.code(), output.stderr.len()), (Some(1), 0));
+        assert!(String::from_utf8(output.stdout).unwrap() == format!("{before}file refused {refusal}\n"));
+        // no file is left of a cut, wherever the damage is
+        refused(&["cut", name(&file), "--after", "1", "-o", name(&room.0.join("rest"))], &format!("damaged: file refused {refusal}: "));
+    }
+    assert_eq!(room.names(), ["damaged", "text", "trace"]);
+}
+
+#[cfg(unix)]
+#[test]
+fn a_pipe_that_hands_over_a_few_bytes_is_read() {
+    let (text, lines) = many(2_049);
+    let whole = format!("{lines}steps 2049\n");
+    let trace = text::assemble(&text).unwrap();
+    let file = trace.to_bytes();
+    for piece in [1, 3, 7, 5_000] {
+        for bytes in [&file, text.as_bytes()] {
+            let output = fed(&["run", "/dev/stdin"], bytes, piece);
+            assert_eq!((output.status.code(), output.stderr.len()), (Some(0), 0));
+            assert!(output.stdout == whole.as_bytes(), "{piece} bytes at a time");
+        }
+        let output = fed(&["run", "/dev/stdin"], &file[..file.len() - 1], piece);
+        let cut: String = lines.split_inclusive('\n').take(2_048).collect();
+        assert!(output.stdout == format!("{cut}file refused 6\n").as_bytes(), "{piece} bytes at a time");
+        assert_eq!(output.status.code(), Some(1));
+    }
+    // three sections are read twice
+    let output = fed(&["run", "/dev/stdin"], &trace.cut(3).unwrap().to_bytes(), 4_096);
+    let message = String::from_utf8(output.stderr).unwrap();
+    assert_eq!((output.status.code(), output.stdout.len()), (Some(1), 0));
+    assert_eq!(message, "amx: /dev/stdin: a trace of three sections is read twice, and this input can be read but once\n");
 }
 
 #[test]

@@ -1,3 +1,5 @@
+pub mod Looked
 pub mod Reading
 pub mod Writing
-pub mod Longer
+pub mod Turns
+pub mod Files

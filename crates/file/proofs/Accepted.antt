@@ -1,21 +1,19 @@
 -- Opening a file, by the branches of the code; and what is known of a file that is accepted.
 -- Assumes nothing.
-use mathlib.Core.Path.{_≡_, refl, sym, ap, subst, _∙_}
+use mathlib.Core.Path.{_≡_, sym, ap, subst, _∙_}
 use mathlib.Core.Bool.{Bool, true, false, not}
 use mathlib.Core.List.{List}
 use mathlib.Core.Logic.{⊎-elim}
-use Prim.Native.Nat.{ℕ, _+_, _-_, _*_, _≤_, _<_}
-use native.Mathlib.Omega.{arith}
+use Prim.Native.Nat.{ℕ, _≤_, _<_}
 use borrow.Author.Tests.{lt-ltb, le-ltb}
-use lib.ListN.{length, take, drop}
+use lib.ListN.{length}
 use Rattle.number.proofs.Tests.{pick-true, pick-false, true-false, lt-or-le, two}
 use Rattle.file.specs.declared.FileRefusal.{FileRefusal}
 use Rattle.file.specs.declared.FileRefusal.the-variants.{Short, Contents, Padding}
 use Rattle.file.specs.declared.Opened.{Opened}
 use Rattle.file.specs.declared.Opened.the-variants.{Steps, Refused}
-use Rattle.file.specs.File.{bytesFrom, contentsLength, mostSteps, stepsBase, stepCount, stepsIn, consumedIn, contentsRight, paddingsClear, openedAs}
-use Rattle.file.proofs.Parts.{part-between}
-use Rattle.file.proofs.Contents.{contents-most, contents-consumed, contents-end}
+use Rattle.file.specs.File.{contentsLength, mostSteps, stepCount, stepsIn, consumedIn, contentsRight, paddingsClear, openedAs}
+use Rattle.file.proofs.Contents.{contents-most, contents-consumed}
 
 -- ---- by the branches
 
@@ -39,18 +37,6 @@ module _ (file : List ℕ) where
     opened-steps e f =
         sym (pick-false _ _ (le-ltb (length file) (contentsLength file) long) ∙ pick-false _ _ (ap not e) ∙ pick-false _ _ (ap not f))
 
--- the bytes of the steps, lent as a part of the file
-module _ (file : List ℕ) (right : contentsRight file ≡ true) (base n : ℕ) (b : base ≡ stepsBase file) (k : n ≡ stepCount file) where
-  pub steps-end : base + 16 * n ≤ length file
-  steps-end = omega (arith, b, k, contents-end file right)
-
-  pub paddings-part : (r : Bool) → r ≡ paddingsClear (take (base + 16 * n - base) (drop base file)) n
-      → paddingsClear (stepsIn file) (stepCount file) ≡ r
-  paddings-part r e =
-      let part : take (base + 16 * n - base) (drop base file) ≡ stepsIn file =
-      part-between file base (base + 16 * n) (16 * n) refl steps-end ∙ (λ i. bytesFrom file (b i) (16 * k i))
-      in sym (e ∙ (λ i. paddingsClear (part i) (k i)))
-
 -- ---- an accepted file
 
 accepts : Opened → Bool
@@ -61,28 +47,31 @@ stepsTold : Opened → ℕ
 stepsTold (Steps n) = n
 stepsTold (Refused r) = 0
 
-module _ (file : List ℕ) (n : ℕ) (opened : openedAs file ≡ Steps n) where
-  not-refused : (r : FileRefusal) → Refused r ≡ openedAs file → ⊥
-  unfolding accepts
-  not-refused r e = true-false (sym (ap accepts (e ∙ opened)))
+pub not-both : {o : Opened} {n : ℕ} {r : FileRefusal} → Refused r ≡ o → o ≡ Steps n → ⊥
+unfolding accepts
+not-both e f = true-false (sym (ap accepts (e ∙ f)))
 
-  long : contentsLength file ≤ length file
-  long = ⊎-elim (λ h. absurd (not-refused Short (opened-short file h))) (λ h. h) (lt-or-le (length file) (contentsLength file))
+pub same-steps : {n m : ℕ} → Steps n ≡ Steps m → n ≡ m
+unfolding stepsTold
+same-steps e = ap stepsTold e
+
+module _ (file : List ℕ) (n : ℕ) (opened : openedAs file ≡ Steps n) where
+  pub accepted-long : contentsLength file ≤ length file
+  accepted-long = ⊎-elim (λ h. absurd (not-both (opened-short file h) opened)) (λ h. h) (lt-or-le (length file) (contentsLength file))
 
   pub accepted-contents : contentsRight file ≡ true
   accepted-contents =
-      two (contentsRight file) (contentsRight file ≡ true) (λ t. t) (λ f. absurd (not-refused Contents (opened-contents file long f)))
+      two (contentsRight file) (contentsRight file ≡ true) (λ t. t) (λ f. absurd (not-both (opened-contents file accepted-long f) opened))
 
   pub accepted-paddings : paddingsClear (stepsIn file) (stepCount file) ≡ true
   accepted-paddings =
       two (paddingsClear (stepsIn file) (stepCount file)) (paddingsClear (stepsIn file) (stepCount file) ≡ true) (λ t. t)
-      (λ f. absurd (not-refused Padding (opened-padding file long accepted-contents f)))
+      (λ f. absurd (not-both (opened-padding file accepted-long accepted-contents f) opened))
 
   pub accepted-count : stepCount file ≡ n
-  unfolding stepsTold
-  accepted-count = ap stepsTold (opened-steps file long accepted-contents accepted-paddings ∙ opened)
+  accepted-count = same-steps (opened-steps file accepted-long accepted-contents accepted-paddings ∙ opened)
 
-  pub accepted-most : n ≤ 2048
+  pub accepted-most : n ≤ mostSteps
   accepted-most = subst (λ (k : ℕ). k ≤ mostSteps) accepted-count (contents-most file accepted-contents)
 
   pub accepted-consumed : consumedIn file ≤ n

@@ -12,7 +12,7 @@ use Rattle.number.specs.Bytes.{byteAt, number}
 use Rattle.number.proofs.Tests.{and-left, and-right, pick-true, pick-false, either, two}
 use Rattle.isa.specs.State.{registerBytes}
 use Rattle.file.specs.File.{sectionCount, hasCheckpoint, checkpointLength, contentsLength, stepsBase, stepBytes, mostSteps, stepCount}
-use Rattle.file.specs.File.{stepsEnd, consumedIn, entryIs, sectionsRight, checkpointRight, contentsRight}
+use Rattle.file.specs.File.{stepsEnd, consumedIn, entryIs, sectionsRight, checkpointRight, tableRight, contentsRight}
 
 -- n is the number m that a file holds: whether m is k, by n
 pub same : {n m : ℕ} (k : ℕ) → n ≡ m → n ≡ k → eqb m k ≡ true
@@ -119,6 +119,20 @@ module _ (file : List ℕ) where
   unfolding sectionsRight
   by-second a b = sym (λ t. a t && b t && second)
 
+  -- the whole table
+  pub table-other : sectionsRight file ≡ false → false ≡ tableRight file
+  unfolding tableRight
+  table-other a = sym (λ t. a t && cond (hasCheckpoint file) third counted)
+
+  pub table-three : sectionsRight file ≡ true → hasCheckpoint file ≡ true → third ≡ tableRight file
+  unfolding tableRight
+  table-three a b = sym (λ t. a t && cond (b t) third counted)
+
+  pub table-two : sectionsRight file ≡ true → hasCheckpoint file ≡ false → counted ≡ tableRight file
+  unfolding tableRight
+  table-two a b = sym (λ t. a t && cond (b t) third counted)
+
+  -- the same with what was consumed, and with the length of the file
   pub other-third : third ≡ false → false ≡ checkpointRight file
   unfolding checkpointRight
   other-third a = sym (λ t. a t && within)
@@ -153,6 +167,10 @@ module _ (file : List ℕ) where
   unfolding sectionsRight
   sections-most e = leb-true (stepCount file) mostSteps (and-left few first (and-left (few && first) second e))
 
+  pub table-most : tableRight file ≡ true → stepCount file ≤ mostSteps
+  unfolding tableRight
+  table-most e = sections-most (and-left (sectionsRight file) (cond (hasCheckpoint file) third counted) e)
+
   module _ (e : contentsRight file ≡ true) where
     contents-sections : sectionsRight file ≡ true
     unfolding contentsRight
@@ -180,10 +198,11 @@ module _ (file : List ℕ) where
       consumed-three = leb-true (consumedIn file) (stepCount file) (and-right third within contents-checkpoint)
 
     module _ (b : hasCheckpoint file ≡ false) where
+      two-sections : counted && ended ≡ true
+      two-sections = sym (pick-false (checkpointRight file && closed) (counted && ended) b) ∙ contents-behind
+
       pub contents-two : length file ≡ stepsEnd file
-      contents-two =
-          eqb-true (length file) (stepsEnd file)
-          (and-right counted ended (sym (pick-false (checkpointRight file && closed) (counted && ended) b) ∙ contents-behind))
+      contents-two = eqb-true (length file) (stepsEnd file) (and-right counted ended two-sections)
 
     pub contents-consumed : consumedIn file ≤ stepCount file
     contents-consumed =
@@ -192,3 +211,9 @@ module _ (file : List ℕ) where
     pub contents-end : stepsEnd file ≤ length file
     contents-end =
         two (hasCheckpoint file) (stepsEnd file ≤ length file) (λ b. omega (arith, contents-three b)) (λ b. omega (arith, contents-two b))
+
+    pub contents-table : tableRight file ≡ true
+    contents-table =
+        two (hasCheckpoint file) (tableRight file ≡ true)
+        (λ b. sym (table-three contents-sections b) ∙ and-left third within (contents-checkpoint b))
+        (λ b. sym (table-two contents-sections b) ∙ and-left counted ended (two-sections b))

@@ -1,6 +1,6 @@
 -- Records in the bytes of steps: their bytes as numbers, the cursor, the list of calls, and the calls of a part.
 -- Assumes nothing.
-use mathlib.Core.Path.{_≡_, sym, ap, _∙_}
+use mathlib.Core.Path.{_≡_, refl, sym, ap, _∙_}
 use mathlib.Core.Bool.{true, false, _&&_}
 use mathlib.Core.List.{List}
 use mathlib.Core.Logic.{⊎-elim}
@@ -8,7 +8,7 @@ use Prim.Native.Nat.{ℕ, _+_, _-_, _*_, _/_, _≤_, _<_}
 use native.Mathlib.Omega.{arith}
 use borrow.Author.Tests.{lt-ltb, le-ltb}
 use lib.Dec.{ltb}
-use lib.ListN.{length, drop}
+use lib.ListN.{length, take, drop}
 use lib.Seq.{drop-at}
 use Rattle.number.specs.Bytes.{byteAt, number, table}
 use Rattle.number.proofs.Tests.{pick-true, pick-false, lt-or-le}
@@ -16,8 +16,8 @@ use Rattle.number.proofs.Bytes.{length-table, table-add, table-same, number-mov
 use Rattle.isa.specs.Call.{Call, call}
 use Rattle.file.specs.declared.Record.{Record}
 use Rattle.file.specs.declared.Read.the-variants as read
-use Rattle.file.specs.File.{bytesFrom, mostSteps, recordsIn, callAt, calls, cursor, recordOf, readAs}
-use Rattle.file.proofs.Parts.{byte-from}
+use Rattle.file.specs.File.{bytesFrom, runSteps, runOf, recordsIn, callAt, calls, cursor, recordOf, readAs}
+use Rattle.file.proofs.Parts.{byte-from, part-between}
 
 -- ---- a call as code holds it
 
@@ -29,36 +29,41 @@ record-same a b d = λ t. recordOf (call (a t) (b t) (d t))
 module _ (steps : List ℕ) (i n : ℕ) where
   pub read-end : n ≤ i → read.End ≡ readAs steps (cursor i n)
   read-end h =
-      let past : ltb i n && ltb i mostSteps ≡ false = (λ t. le-ltb i n h t && ltb i mostSteps) in
+      let past : ltb i n && ltb i runSteps ≡ false = (λ t. le-ltb i n h t && ltb i runSteps) in
       sym (pick-false _ _ past)
 
-  pub read-past : i < n → mostSteps ≤ i → read.End ≡ readAs steps (cursor i n)
+  pub read-past : i < n → runSteps ≤ i → read.End ≡ readAs steps (cursor i n)
   read-past h l =
-      let past : ltb i n && ltb i mostSteps ≡ false = (λ t. lt-ltb i n h t && le-ltb i mostSteps l t) in
+      let past : ltb i n && ltb i runSteps ≡ false = (λ t. lt-ltb i n h t && le-ltb i runSteps l t) in
       sym (pick-false _ _ past)
 
   -- a cursor at step i gives the call of step i, and the cursor at the next one
-  pub read-step : i < n → i < mostSteps → read.Record (recordOf (callAt steps i)) (cursor (i + 1) n) ≡ readAs steps (cursor i n)
+  pub read-step : i < n → i < runSteps → read.Record (recordOf (callAt steps i)) (cursor (i + 1) n) ≡ readAs steps (cursor i n)
   read-step h l =
-      let there : ltb i n && ltb i mostSteps ≡ true = (λ t. lt-ltb i n h t && lt-ltb i mostSteps l t) in
+      let there : ltb i n && ltb i runSteps ≡ true = (λ t. lt-ltb i n h t && lt-ltb i runSteps l t) in
       sym (pick-true _ _ there)
 
 -- ---- how many there are
 
+module _ (n : ℕ) where
+  pub run-few : n < runSteps → n ≡ runOf n
+  run-few h = sym (pick-true _ _ (lt-ltb n runSteps h))
+
+  pub run-most : runSteps ≤ n → runSteps ≡ runOf n
+  run-most h = sym (pick-false _ _ (le-ltb n runSteps h))
+
+  pub run-whole : n ≤ runSteps → runOf n ≡ n
+  run-whole h =
+      ⊎-elim
+      (λ (l : n < runSteps). sym (run-few l))
+      (λ (l : runSteps ≤ n). sym (run-most l) ∙ omega (arith, l, h))
+      (lt-or-le n runSteps)
+
 module _ (steps : List ℕ) where
-  pub records-few : length steps / 16 < mostSteps → length steps / 16 ≡ recordsIn steps
-  records-few h = sym (pick-true _ _ (lt-ltb (length steps / 16) mostSteps h))
-
-  pub records-most : mostSteps ≤ length steps / 16 → mostSteps ≡ recordsIn steps
-  records-most h = sym (pick-false _ _ (le-ltb (length steps / 16) mostSteps h))
-
-  pub records-exact : (n : ℕ) → length steps ≡ 16 * n → n ≤ mostSteps → recordsIn steps ≡ n
+  pub records-exact : (n : ℕ) → length steps ≡ 16 * n → n ≤ runSteps → recordsIn steps ≡ n
   records-exact n e h =
       let whole : length steps / 16 ≡ n = omega (arith, e) in
-      ⊎-elim
-      (λ (l : length steps / 16 < mostSteps). sym (records-few l) ∙ whole)
-      (λ (l : mostSteps ≤ length steps / 16). sym (records-most l) ∙ omega (arith, whole, l, h))
-      (lt-or-le (length steps / 16) mostSteps)
+      ap runOf whole ∙ run-whole n h
 
   pub length-calls : (n : ℕ) → length (calls steps n) ≡ n
   length-calls n = length-table (callAt steps) 0 n
@@ -87,6 +92,13 @@ module _ (s : List ℕ) where
 
       operand : number 8 (byteAt part) (16 * i + 8) ≡ number 8 (byteAt s) (p + 16 * i + 8)
       operand = number-moved 8 (byteAt part) (byteAt s) (16 * i + 8) (p + 16 * i + 8) (λ k l. there 8 k (omega (arith, h, l)))
+
+  -- the call of a step's own bytes, as a part
+  pub call-part : (i : ℕ) → 16 * i + 16 ≤ length s → callAt (take (16 * i + 16 - 16 * i) (drop (16 * i) s)) 0 ≡ callAt s i
+  call-part i h =
+      let place : 16 * i + 16 * 0 ≡ 16 * i = omega arith in
+      ap (λ (part : List ℕ). callAt part 0) (part-between s (16 * i) (16 * i + 16) 16 refl h)
+      ∙ call-from (16 * i) 1 0 (omega arith) ∙ ap standing place
 
   -- those from step k on are the calls of the bytes from there on
   pub calls-rest : (p n k : ℕ) → k ≤ n → calls (bytesFrom s (p + 16 * k) (16 * (n - k))) (n - k) ≡ drop k (calls (bytesFrom s p (16 * n)) n)

@@ -1,7 +1,7 @@
 -- The starting state and the saved one, loaded; and a checkpoint stored; by the branches of the code.
 -- Assumes nothing.
 use mathlib.Core.Path.{_≡_, refl, sym, ap, _∙_}
-use mathlib.Core.Bool.{Bool, true, false, _&&_}
+use mathlib.Core.Bool.{Bool, true, false, cond, _&&_}
 use mathlib.Core.List.{List, _++_}
 use Prim.Native.Nat.{ℕ, _+_, _^_, _≤_, _<_}
 use native.Mathlib.Nat.{zero-add}
@@ -16,9 +16,8 @@ use Rattle.number.proofs.Slice.{sets-joined}
 use Rattle.isa.specs.State.{registerBytes, stateLength, countOf}
 use Rattle.isa.proofs.Registers.{length-state, count-state}
 use Rattle.file.specs.File.{bytesFrom, hasCheckpoint, checkpointLength, contentsLength, stepsEnd, registersIn, startOf, savedIn, resumedFrom}
-use Rattle.file.specs.File.{loadedFrom, storable, checkpointIn, storedBytes}
+use Rattle.file.specs.File.{loadedStart, loadedSaved, storable, checkpointIn, storedBytes}
 use Rattle.file.proofs.Parts.{length-from, whole-from, sets-whole}
-use Rattle.file.proofs.Contents.{length-two}
 
 -- two pieces stored from the front on
 joined : (s xs ys : List ℕ) (n : ℕ) → length xs ≡ n → sets (sets s 0 xs) n ys ≡ sets s 0 (xs ++ ys)
@@ -50,26 +49,25 @@ module _ (file : List ℕ) where
 
 -- ---- loading
 
-module _ (file state : List ℕ) where
-  pub load-other : (length state ≡ stateLength → ⊥) → state ≡ loadedFrom file state
+-- a state of another length, and one that x is loaded over
+module _ (x state : List ℕ) where
+  pub load-other : (length state ≡ stateLength → ⊥) → state ≡ cond (eqb (length state) stateLength) x state
   load-other f = sym (pick-false _ _ (ne-eqb (length state) stateLength f))
 
-  pub load-whole : length state ≡ stateLength → resumedFrom file ≡ loadedFrom file state
+  pub load-whole : length state ≡ stateLength → x ≡ cond (eqb (length state) stateLength) x state
   load-whole e = sym (pick-true _ _ (eq-eqb (length state) stateLength e))
 
-  pub load-saved : length state ≡ stateLength → hasCheckpoint file ≡ true → (p : ℕ) → p ≡ stepsEnd file
-      → sets state 0 (bytesFrom file (p + 4) 5128) ≡ loadedFrom file state
-  load-saved e b p f =
-      ap (λ (q : ℕ). sets state 0 (bytesFrom file (q + 4) 5128)) f
-      ∙ sets-whole (savedIn file) state (length-saved file ∙ sym e) ∙ sym (resumed-saved file b) ∙ load-whole e
+-- the registers, from position p of the head on, and then a count of 0
+pub load-start : (head state : List ℕ) (p : ℕ) → length state ≡ stateLength → p ≡ contentsLength head
+    → sets (sets state 0 (bytesFrom head p 5120)) 5120 (bytesOf 8 0) ≡ loadedStart head state
+load-start head state p e f =
+    ap (λ (q : ℕ). sets (sets state 0 (bytesFrom head q 5120)) 5120 (bytesOf 8 0)) f
+    ∙ joined state (registersIn head) (bytesOf 8 0) 5120 (length-in head) ∙ sets-whole (startOf head) state (length-start head ∙ sym e)
+    ∙ load-whole (startOf head) state e
 
-  -- the registers, and then a count of 0
-  pub load-start : length state ≡ stateLength → hasCheckpoint file ≡ false
-      → sets (sets state 0 (bytesFrom file 28 5120)) 5120 (bytesOf 8 0) ≡ loadedFrom file state
-  load-start e b =
-      ap (λ (p : ℕ). sets (sets state 0 (bytesFrom file p 5120)) 5120 (bytesOf 8 0)) (sym (length-two file b))
-      ∙ joined state (registersIn file) (bytesOf 8 0) 5120 (length-in file)
-      ∙ sets-whole (startOf file) state (length-start file ∙ sym e) ∙ sym (resumed-start file b) ∙ load-whole e
+pub load-saved : (last state : List ℕ) → length state ≡ stateLength → sets state 0 (bytesFrom last 4 5128) ≡ loadedSaved last state
+load-saved last state e =
+    sets-whole (bytesFrom last 4 stateLength) state (length-from last 4 stateLength ∙ sym e) ∙ load-whole (bytesFrom last 4 stateLength) state e
 
 -- ---- storing a checkpoint
 

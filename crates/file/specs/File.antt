@@ -53,8 +53,16 @@ stepsBase file = contentsLength file + registerBytes
 abbrev pub stepBytes : ℕ
 stepBytes = 16
 
+-- "Raise 2,048 to 1,000,000."
 abbrev pub mostSteps : ℕ
-mostSteps = 2048
+mostSteps = 1000000
+
+-- "The program takes steps in runs of at most 2,048": the steps of the next run, where so many are left
+abbrev pub runSteps : ℕ
+runSteps = 2048
+
+abbrev pub runOf : ℕ → ℕ
+runOf left = cond (ltb left runSteps) left runSteps
 
 -- n, from the length of the second section
 abbrev pub stepCount : List ℕ → ℕ
@@ -92,9 +100,9 @@ resumedFrom file = cond (hasCheckpoint file) (savedIn file) (startOf file)
 
 -- ---- steps, from the bytes of the second section or of a part of it
 
--- whole steps, as many as a file may have at most
+-- whole steps, as many as a run has at most
 abbrev pub recordsIn : List ℕ → ℕ
-recordsIn steps = let n = length steps / stepBytes in cond (ltb n mostSteps) n mostSteps
+recordsIn steps = runOf (length steps / stepBytes)
 
 -- the position of step i
 abbrev pub stepAt : ℕ → ℕ
@@ -118,7 +126,7 @@ entryIs file p kind offset size =
     && eqb (number 4 (byteAt file) (p + 4)) offset
     && eqb (number 4 (byteAt file) (p + 8)) size
 
--- n from 0 to 2,048; the starting registers, and the steps
+-- n from 0 to 1,000,000; the starting registers, and the steps
 unfoldable pub sectionsRight : List ℕ → Bool
 sectionsRight file =
     leb (stepCount file) mostSteps
@@ -128,6 +136,12 @@ sectionsRight file =
 -- the checkpoint, with no more steps consumed than there are
 unfoldable pub checkpointRight : List ℕ → Bool
 checkpointRight file = entryIs file 28 3 (stepsEnd file) checkpointLength && leb (consumedIn file) (stepCount file)
+
+-- the whole table: two sections, or three
+unfoldable pub tableRight : List ℕ → Bool
+tableRight file =
+    sectionsRight file
+    && cond (hasCheckpoint file) (entryIs file 28 3 (stepsEnd file) checkpointLength) (eqb (sectionCount file) 2)
 
 -- two sections, or three with the checkpoint, and no byte behind the last
 unfoldable pub contentsRight : List ℕ → Bool
@@ -154,15 +168,46 @@ paddingsClear steps n = all (paddingClear steps) n
 
 -- ---- opening
 
--- "Refused 5: shorter than 28 bytes", which "also covers a count of 3 in under 40 bytes". "Refused 6: count or an entry differs from the above, or
--- the file's length"; it "checks all three entries, the length, and consumed above n". "Refused 7: a padding byte not 0", of a consumed step too.
--- "In that order, before any step."
+-- "Refused 5: shorter than 28 bytes", which "also covers a count of 3 in under 40 bytes". "Refused 6: count or an entry differs from the above", or
+-- the starting state is cut short. So far a file is looked at before any line; what is read of it is its head.
+unfoldable pub headAs : List ℕ → Opened
+headAs head =
+    cond (ltb (length head) (contentsLength head)) (Refused Short)
+    (cond (not (tableRight head)) (Refused Contents)
+    (cond (ltb (length head) (stepsBase head)) (Refused Contents)
+    (Steps (stepCount head))))
+
+-- A file that is sound as a whole: "Refused 6: .. or the file's length"; it "checks all three entries, the length, and consumed above n". "Refused 7: a
+-- padding byte not 0", of a consumed step too. In that order. A file with a checkpoint is accepted so before any line.
 unfoldable pub openedAs : List ℕ → Opened
 openedAs file =
     cond (ltb (length file) (contentsLength file)) (Refused Short)
     (cond (not (contentsRight file)) (Refused Contents)
     (cond (not (paddingsClear (stepsIn file) (stepCount file))) (Refused Padding)
     (Steps (stepCount file))))
+
+-- The same of a file that is read piece by piece, behind a head that says n and n whole steps: by the bytes behind them, and whether the padding of all
+-- steps is clear. These are the checkpoint, and no more.
+unfoldable pub closedAs : List ℕ → ℕ → Bool → Opened
+closedAs last n clear =
+    cond (not (eqb (length last) checkpointLength && leb (number 4 (byteAt last) 0) n)) (Refused Contents)
+    (cond (not clear) (Refused Padding)
+    (Steps n))
+
+-- ---- steps as they are read
+
+-- whether step i is there as a whole, with its padding clear
+abbrev pub sound : List ℕ → ℕ → Bool
+sound steps i = leb (stepAt (suc i)) (length steps) && paddingClear steps i
+
+-- the number of steps before the first that is not sound, n at most
+unfoldable pub soundIn : List ℕ → ℕ → ℕ
+soundIn steps zero = zero
+soundIn steps (suc n) = let k = soundIn steps n in cond (eqb k n && sound steps n) (suc n) k
+
+-- why step i is not sound: "a record cut short is 6, whatever its padding"
+abbrev pub faultAt : List ℕ → ℕ → FileRefusal
+faultAt steps i = cond (ltb (length steps) (stepAt (suc i))) Contents Padding
 
 -- ---- reading step by step
 
@@ -173,9 +218,9 @@ cursor next end = record { next = next; end = end }
 abbrev pub recordOf : Call → Record
 recordOf c = record { instruction = c .instruction; generation = c .generation; operand = c .operand }
 
--- whether a cursor is at a step: not at or behind the end, and not from step 2,048 on, which no accepted file has
+-- whether a cursor is at a step: not at or behind the end, and not from step 2,048 on, which no run has
 abbrev pub atStep : Cursor → Bool
-atStep c = ltb (c .next) (c .end) && ltb (c .next) mostSteps
+atStep c = ltb (c .next) (c .end) && ltb (c .next) runSteps
 
 -- the step that a cursor is at, with the cursor behind it
 abbrev pub readAs : List ℕ → Cursor → Read
@@ -187,8 +232,11 @@ readAs steps c =
 -- ---- loading the state that a run goes on from
 
 -- a state of another length is left as it is
-abbrev pub loadedFrom : List ℕ → List ℕ → List ℕ
-loadedFrom file state = cond (eqb (length state) stateLength) (resumedFrom file) state
+abbrev pub loadedStart : List ℕ → List ℕ → List ℕ
+loadedStart head state = cond (eqb (length state) stateLength) (startOf head) state
+
+abbrev pub loadedSaved : List ℕ → List ℕ → List ℕ
+loadedSaved last state = cond (eqb (length state) stateLength) (bytesFrom last 4 stateLength) state
 
 -- ---- storing a checkpoint
 

@@ -3,9 +3,10 @@ ghost use mathlib.Core.Path.{_≡_};
 ghost use mathlib.Core.Bool.{true};
 ghost use Prim.Native.Nat.{_≤_, _<_, _^_};
 ghost use lib.Seq.{sets};
-ghost use Rattle.file.specs.File.{fileRefusalNumber, bytesFrom, hasCheckpoint, contentsLength, stepCount, stepsBase, stepsEnd, stepsIn, consumedIn};
-ghost use Rattle.file.specs.File.{entryIs, sectionsRight, checkpointRight, contentsRight, paddingClear, paddingsClear, openedAs};
-ghost use Rattle.file.specs.File.{recordsIn, callAt, recordOf, readAs, loadedFrom, checkpointIn, storedBytes};
+ghost use Rattle.number.specs.Bytes.{byteAt, number};
+ghost use Rattle.file.specs.File.{fileRefusalNumber, bytesFrom, hasCheckpoint, contentsLength, stepCount, stepsBase, stepsEnd};
+ghost use Rattle.file.specs.File.{entryIs, sectionsRight, tableRight, headAs, closedAs, paddingClear, soundIn, faultAt};
+ghost use Rattle.file.specs.File.{runOf, recordsIn, callAt, recordOf, readAs, loadedStart, loadedSaved, checkpointIn, storedBytes};
 
 // Why a file is refused.
 pub enum FileRefusal {
@@ -52,7 +53,7 @@ pub fn file_refusal_number(r: FileRefusal) -> u64
 
 // ---- where things lie
 
-fn has_checkpoint(file: &[u8]) -> bool
+pub fn has_checkpoint(file: &[u8]) -> bool
     ensures { λ r. ⌜ r ≡ hasCheckpoint (now (file .entry)) ⌝ }
 {
     number::get32(file, 0) == 3
@@ -84,17 +85,6 @@ fn steps_end(file: &[u8]) -> usize
     steps_base(file) + 16 * step_count(file) as usize
 }
 
-// How many steps the run before was through with, the refused ones too; 0 without a checkpoint.
-pub fn consumed(file: &[u8]) -> u32
-    ensures { λ r. ⌜ r ≡ consumedIn (now (file .entry)) ⌝ }
-{
-    if !has_checkpoint(file) {
-        return 0;
-    }
-    let at = steps_end(file);
-    number::get32(file, at)
-}
-
 // ---- opening
 
 // Whether the entry of the table at a position is this one.
@@ -119,7 +109,7 @@ fn sections_right(file: &[u8]) -> bool
     ensures { λ r. ⌜ r ≡ sectionsRight (now (file .entry)) ⌝ }
 {
     let n = step_count(file);
-    if 2048 < n {
+    if 1_000_000 < n {
         return false;
     }
     let length = contents_length(file) as u32;
@@ -129,41 +119,64 @@ fn sections_right(file: &[u8]) -> bool
     entry_is(file, 16, 2, length + 5120, 16 * n)
 }
 
-// The third entry, and what was consumed.
-fn checkpoint_right(file: &[u8]) -> bool
-    requires { ⌜ stepCount (now file) ≤ 2048 ⌝ }
-    ensures { λ r. ⌜ r ≡ checkpointRight (now (file .entry)) ⌝ }
-{
-    let offset = steps_end(file) as u32;
-    if !entry_is(file, 28, 3, offset, 5132) {
-        return false;
-    }
-    consumed(file) <= step_count(file)
-}
-
-// The whole table, and the length of the file that follows from it.
-fn contents_right(file: &[u8]) -> bool
-    ensures { λ r. ⌜ r ≡ contentsRight (now (file .entry)) ⌝ }
+// The whole table.
+fn table_right(file: &[u8]) -> bool
+    ensures { λ r. ⌜ r ≡ tableRight (now (file .entry)) ⌝ }
 {
     if !sections_right(file) {
         return false;
     }
-    let end = steps_end(file);
     if has_checkpoint(file) {
-        if !checkpoint_right(file) {
-            return false;
-        }
-        return file.len() == end + 5132;
+        let offset = steps_end(file) as u32;
+        return entry_is(file, 28, 3, offset, 5132);
     }
-    if number::get32(file, 0) != 2 {
-        return false;
-    }
-    file.len() == end
+    number::get32(file, 0) == 2
 }
+
+// What the head of a file says, before any step is run: by the table, and whether the starting registers are whole. No byte behind them is read.
+pub fn open(head: &[u8]) -> Opened
+    ensures { λ r. ⌜ r ≡ headAs (now (head .entry)) ⌝ }
+{
+    if head.len() < contents_length(head) {
+        return Opened::Refused(FileRefusal::Short);
+    }
+    if !table_right(head) {
+        return Opened::Refused(FileRefusal::Contents);
+    }
+    if head.len() < steps_base(head) {
+        return Opened::Refused(FileRefusal::Contents);
+    }
+    Opened::Steps(step_count(head) as usize)
+}
+
+// How many steps the run before was through with, the refused ones too: from the bytes of the checkpoint.
+pub fn consumed(last: &[u8]) -> u32
+    ensures { λ r. ⌜ r ≡ number 4 (byteAt (now (last .entry))) 0 ⌝ }
+{
+    number::get32(last, 0)
+}
+
+// Whether a file with a checkpoint is accepted, when n whole steps were read behind its head: by the bytes behind them, and the padding of all steps.
+pub fn close(last: &[u8], n: usize, clear: bool) -> Opened
+    ensures { λ r. ⌜ r ≡ closedAs (now (last .entry)) n clear ⌝ }
+{
+    if last.len() != 5132 {
+        return Opened::Refused(FileRefusal::Contents);
+    }
+    if n < consumed(last) as usize {
+        return Opened::Refused(FileRefusal::Contents);
+    }
+    if !clear {
+        return Opened::Refused(FileRefusal::Padding);
+    }
+    Opened::Steps(n)
+}
+
+// ---- steps as they are read, from the bytes of the second section or of a part of it
 
 // One step's six bytes, as a pair and a quartet.
 fn padding_clear(steps: &[u8], i: usize) -> bool
-    requires { ⌜ i < 2048 ⌝ }
+    requires { ⌜ i < 2 ^ 50 ⌝ }
     ensures { λ r. ⌜ r ≡ paddingClear (now (steps .entry)) i ⌝ }
 {
     let padding = 16 * i + 2;
@@ -173,56 +186,47 @@ fn padding_clear(steps: &[u8], i: usize) -> bool
     number::get32(steps, padding + 2) == 0
 }
 
-fn paddings_clear(steps: &[u8], n: usize) -> bool
-    requires { ⌜ n ≤ 2048 ⌝ }
-    ensures { λ r. ⌜ r ≡ paddingsClear (now (steps .entry)) n ⌝ }
+// The steps before the first that is cut short or whose padding is not clear, n at most.
+pub fn sound_records(steps: &[u8], n: u32) -> usize
+    ensures { λ r. ⌜ r ≡ soundIn (now (steps .entry)) n ⌝ }
 {
-    for i in 0..n {
+    for i in 0..n as usize {
+        if steps.len() < 16 * (i + 1) {
+            return i;
+        }
         if !padding_clear(steps, i) {
-            return false;
+            return i;
         }
     }
-    true
+    n as usize
 }
 
-// The padding of all steps, where the table is right.
-fn file_paddings_clear(file: &[u8]) -> bool
-    requires { ⌜ contentsRight (now file) ≡ true ⌝ }
-    ensures { λ r. ⌜ r ≡ paddingsClear (stepsIn (now (file .entry))) (stepCount (now (file .entry))) ⌝ }
+// Why a step is not sound.
+pub fn fault_at(steps: &[u8], i: u32) -> FileRefusal
+    ensures { λ r. ⌜ r ≡ faultAt (now (steps .entry)) i ⌝ }
 {
-    let n = step_count(file) as usize;
-    let base = steps_base(file);
-    let end = base + 16 * n;
-    paddings_clear(&file[base..end], n)
+    if steps.len() < 16 * (i as usize + 1) {
+        return FileRefusal::Contents;
+    }
+    FileRefusal::Padding
 }
 
-// Whether a file is accepted, before any step is run.
-pub fn open(file: &[u8]) -> Opened
-    ensures { λ r. ⌜ r ≡ openedAs (now (file .entry)) ⌝ }
+// The steps of the next run, where so many are left.
+pub fn run_of(left: usize) -> usize
+    ensures { λ r. ⌜ (r ≡ runOf left) × (r ≤ 2048) × (r ≤ left) ⌝ }
 {
-    if file.len() < contents_length(file) {
-        return Opened::Refused(FileRefusal::Short);
-    }
-    if !contents_right(file) {
-        return Opened::Refused(FileRefusal::Contents);
-    }
-    if !file_paddings_clear(file) {
-        return Opened::Refused(FileRefusal::Padding);
-    }
-    Opened::Steps(step_count(file) as usize)
+    if left < 2048 { left } else { 2048 }
 }
-
-// ---- reading, from the bytes of the second section or of a part of it
 
 // Whole records, 2,048 at most.
 pub fn record_count(steps: &[u8]) -> usize
     ensures { λ r. ⌜ (r ≡ recordsIn (now (steps .entry))) × (r ≤ 2048) ⌝ }
 {
-    let n = steps.len() / 16;
-    if n < 2048 { n } else { 2048 }
+    run_of(steps.len() / 16)
 }
 
-fn record_at(steps: &[u8], i: usize) -> Record
+// The call of step i; bytes past the end are 0.
+fn record_in(steps: &[u8], i: usize) -> Record
     requires { ⌜ i < 2048 ⌝ }
     ensures { λ r. ⌜ r ≡ recordOf (callAt (now (steps .entry)) i) ⌝ }
 {
@@ -232,6 +236,19 @@ fn record_at(steps: &[u8], i: usize) -> Record
         generation: number::get8(steps, at + 1) as u64,
         operand: number::get64(steps, at + 8),
     }
+}
+
+// The same. A whole step is decoded from a part of 16 bytes: knowing this length, the compiler tests no bound and joins the bytes.
+fn record_at(steps: &[u8], i: usize) -> Record
+    requires { ⌜ i < 2048 ⌝ }
+    ensures { λ r. ⌜ r ≡ recordOf (callAt (now (steps .entry)) i) ⌝ }
+{
+    let at = 16 * i;
+    let end = at + 16;
+    if steps.len() < end {
+        return record_in(steps, i);
+    }
+    record_in(&steps[at..end], 0)
 }
 
 // The step that the cursor is at, and the cursor behind it.
@@ -269,20 +286,26 @@ fn copy_bytes(source: &[u8], from: usize, n: usize, out: &mut [u8], at: usize)
     }
 }
 
-// The state that a run of the file goes on from: the saved one, or the starting registers and a count of 0. A state of another length is left as it is.
-pub fn load_state(file: &[u8], state: &mut [u8])
-    ensures { λ _. ⌜ now (state .exit) ≡ loadedFrom (now (file .entry)) (now (state .entry)) ⌝ }
+// The starting state: the registers in the head, and a count of 0. A state of another length is left as it is.
+pub fn load_start(head: &[u8], state: &mut [u8])
+    ensures { λ _. ⌜ now (state .exit) ≡ loadedStart (now (head .entry)) (now (state .entry)) ⌝ }
 {
     if state.len() != 5128 {
         return;
     }
-    if has_checkpoint(file) {
-        let saved = steps_end(file) + 4;
-        copy_bytes(file, saved, 5128, state, 0);
+    let registers = contents_length(head);
+    copy_bytes(head, registers, 5120, state, 0);
+    number::put64(state, 5120, 0);
+}
+
+// The state that a checkpoint saved, the same way.
+pub fn load_saved(last: &[u8], state: &mut [u8])
+    ensures { λ _. ⌜ now (state .exit) ≡ loadedSaved (now (last .entry)) (now (state .entry)) ⌝ }
+{
+    if state.len() != 5128 {
         return;
     }
-    copy_bytes(file, 28, 5120, state, 0);
-    number::put64(state, 5120, 0);
+    copy_bytes(last, 4, 5128, state, 0);
 }
 
 // The checkpoint of a run that was stopped after so many steps, at the front of a buffer, and its length. Where the number needs more than 4 bytes, the

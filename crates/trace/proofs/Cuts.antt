@@ -9,7 +9,7 @@ use borrow.Author.Tests.{eq-eqb, le-leb}
 use lib.ListN.{length, take, length-append}
 use Rattle.number.specs.Bytes.{byteAt, number, table, bytesOf}
 use Rattle.file.specs.declared.Opened.the-variants.{Steps}
-use Rattle.file.specs.File.{bytesFrom, hasCheckpoint, checkpointLength, contentsLength, stepsBase, stepCount, stepsEnd}
+use Rattle.file.specs.File.{bytesFrom, hasCheckpoint, checkpointLength, contentsLength, stepsBase, mostSteps, stepCount, stepsEnd}
 use Rattle.file.specs.File.{registersIn, startOf, stepsIn, consumedIn, savedIn, calls, checkpointOf}
 use Rattle.file.specs.File.{entryIs, sectionsRight, checkpointRight, contentsRight, paddingsClear, openedAs}
 use Rattle.file.proofs.Parts.{length-from}
@@ -31,7 +31,7 @@ module _ (whole : List ℕ) (steps : ℕ) (opened : openedAs whole ≡ Steps ste
   abbrev state : List ℕ
   state = stoppedAt whole k
 
-  most : n ≤ 2048
+  most : n ≤ mostSteps
   most = omega (arith, accepted-count whole steps opened, accepted-most whole steps opened)
 
   fits : k ≤ n
@@ -154,7 +154,7 @@ module _ (whole : List ℕ) (steps : ℕ) (opened : openedAs whole ≡ Steps ste
 
   sections : sectionsRight file ≡ true
   sections =
-      sym (by-second file (le-leb (stepCount file) 2048 (omega (arith, counted, most)))
+      sym (by-second file (le-leb (stepCount file) mostSteps (omega (arith, counted, most)))
       (ap (λ (m : ℕ). entryIs file 4 1 m 5120) size ∙ entry-stands file 4 1 40 5120 first-stands (omega arith) (omega arith) (omega arith)))
       ∙ (λ i. entryIs file 16 2 (base i) (16 * counted i))
       ∙ entry-stands file 16 2 5160 (16 * n) second-stands (omega arith) (omega arith) (omega (arith, most))

@@ -1,7 +1,12 @@
-pub mod Remaining
+pub mod Halves
+pub mod Divided
+pub mod Sounds
+pub mod Begins
+pub mod Told
+pub mod Closed
 pub mod Short
-pub mod Rows
 pub mod Room
+pub mod Rows
 pub mod Swapped
 pub mod Resumed
 pub mod Stands

@@ -17,8 +17,9 @@ use Rattle.file.proofs.Accepted.{accepted-count, accepted-consumed}
 use Rattle.text.specs.Lines.{stepsLine}
 use Rattle.steps.specs.Steps.{stepLines}
 use Rattle.steps.proofs.Joined.{joined}
-use Rattle.trace.specs.Trace.{zLines, callsIn, remaining, ended, textBy, textOf}
+use Rattle.trace.specs.Trace.{zLines, callsIn, remaining, ended, textOf}
 use Rattle.trace.specs.Resume.{linesTo, Resumes, WholeRun}
+use Rattle.trace.proofs.Sounds.{unchanged}
 
 -- ---- a list of calls in two parts
 
@@ -78,12 +79,11 @@ module _ (file whole : List ℕ) (n : ℕ) (opened : openedAs file ≡ Steps n) 
       (λ i. front ++ stepLines (rest i) k (r .saved i)) ∙ parts-lines cs k s fits ∙ sym (λ i. stepLines (all i) (none i) (start i))
 
   same-text : front ++ textOf file ≡ textOf whole
-  unfolding textOf
   same-text =
       let z : List ℕ = zLines (registersIn file) (ended file) in
-      ap (λ (x : List ℕ). front ++ x) (ap (textBy file) opened)
+      ap (λ (x : List ℕ). front ++ x) (unchanged file n opened)
       ∙ sym (append-assoc front (back ++ z) (stepsLine n)) ∙ sym (ap (λ (x : List ℕ). x ++ stepsLine n) (append-assoc front back z))
-      ∙ (λ i. same-lines i ++ zLines (r .registers i) (same-end i) ++ stepsLine n) ∙ sym (ap (textBy whole) uncut)
+      ∙ (λ i. same-lines i ++ zLines (r .registers i) (same-end i) ++ stepsLine n) ∙ sym (unchanged whole n uncut)
 
 pub whole-run : WholeRun
 whole-run file whole n opened uncut r = (

@@ -1,24 +1,28 @@
 -- How long lines and texts are at most.
 -- Assumes nothing.
-use mathlib.Core.Path.{_≡_, refl}
-use mathlib.Core.List.{List, _++_}
-use Prim.Native.Nat.{ℕ, zero, suc, _+_, _*_, _≤_, _<_}
+use mathlib.Core.Path.{_≡_}
+use mathlib.Core.Bool.{Bool, true, false}
+use mathlib.Core.List.{List, [], _++_}
+use mathlib.Core.Logic.{⊎-elim}
+use Prim.Native.Nat.{ℕ, zero, suc, _+_, _*_, _^_, _≤_, _<_}
 use native.Mathlib.Omega.{arith}
+use borrow.Author.Tests.{lt-ltb, le-ltb}
+use lib.Dec.{eqb, ltb}
 use lib.ListN.{length, length-append}
-use Rattle.number.proofs.Tests.{either}
+use Rattle.number.proofs.Tests.{either, pick-true, pick-false, lt-or-le}
 use Rattle.number.proofs.Bytes.{length-table}
 use Rattle.number.specs.Bytes.{byteAt}
+use Rattle.file.specs.declared.FileRefusal.{FileRefusal}
 use Rattle.file.specs.declared.FileRefusal.the-variants.{Short, Contents, Padding}
-use Rattle.file.specs.declared.Opened.{Opened}
-use Rattle.file.specs.declared.Opened.the-variants.{Steps, Refused}
-use Rattle.file.specs.File.{openedAs, registersIn, consumedIn, resumedFrom}
-use Rattle.file.proofs.Accepted.{accepted-most, accepted-consumed}
-use Rattle.text.specs.Lines.{zLine, stepsLine}
+use Rattle.file.specs.File.{fileRefusalNumber, runSteps, runOf, soundIn, faultAt, calls}
+use Rattle.file.proofs.Sound.{sound-most}
+use Rattle.file.proofs.Records.{length-calls}
+use Rattle.text.specs.Lines.{zLine, stepsLine, refusedLine}
 use Rattle.text.proofs.Lengths.{row-short, steps-short, file-short}
 use Rattle.steps.specs.Steps.{stepLines}
 use Rattle.steps.proofs.Short.{lines-short}
-use Rattle.trace.specs.Trace.{rowOf, rowChanged, rowLine, rowLines, zLines, remaining, ended, textBy, textOf, roomLength, Fits}
-use Rattle.trace.proofs.Remaining.{remaining-length}
+use Rattle.trace.specs.Trace.{rowOf, rowChanged, rowLine, rowLines, zLines, endText}
+use Rattle.trace.specs.Runs.{runText, roomLength, Fits}
 
 -- ---- lines
 
@@ -35,32 +39,52 @@ rowLines-short start end zero h = omega arith
 rowLines-short start end (suc n) h =
     omega (arith, length-append (rowLines start end n) (rowLine start end n), rowLine-short start end n h, rowLines-short start end n (omega arith))
 
+pub refused-short : (r : FileRefusal) → length (refusedLine (fileRefusalNumber r)) ≤ 64
+refused-short Short = omega (arith, file-short 5 (omega arith))
+refused-short Contents = omega (arith, file-short 6 (omega arith))
+refused-short Padding = omega (arith, file-short 7 (omega arith))
+
 -- ---- texts
 
-module _ (file : List ℕ) where
-  accepted-fits : (n : ℕ) → openedAs file ≡ Steps n → length (textBy file (Steps n)) ≤ roomLength
-  accepted-fits n e =
-      let steps : List ℕ = stepLines (remaining file) (consumedIn file) (resumedFrom file) in
-      let changed : List ℕ = zLines (registersIn file) (ended file) in
-      omega (
+run-steps : (left : ℕ) → runOf left ≤ runSteps
+run-steps left =
+    ⊎-elim
+    (λ (h : left < runSteps). omega (arith, h, pick-true left runSteps (lt-ltb left runSteps h)))
+    (λ (h : runSteps ≤ left). omega (arith, h, pick-false left runSteps (le-ltb left runSteps h)))
+    (lt-or-le left runSteps)
+
+pub run-left : (left : ℕ) → runOf left ≤ left
+run-left left =
+    ⊎-elim
+    (λ (h : left < runSteps). omega (arith, h, pick-true left runSteps (lt-ltb left runSteps h)))
+    (λ (h : runSteps ≤ left). omega (arith, h, pick-false left runSteps (le-ltb left runSteps h)))
+    (lt-or-le left runSteps)
+
+module _ (left i : ℕ) (registers s bytes : List ℕ) (h : i < 2 ^ 32) where
+  abbrev k : ℕ
+  k = soundIn bytes (runOf left)
+
+  run-fits : length (runText (runOf left) i s bytes) ≤ roomLength
+  run-fits =
+      let lines : List ℕ = stepLines (calls bytes k) i s in
+      let count = length-calls bytes k in
+      let few : k ≤ 2048 = omega (arith, sound-most bytes (runOf left), run-steps left) in
+      either (λ (xs : List ℕ). length (lines ++ xs) ≤ roomLength) (ltb k (runOf left))
+      (omega (
         arith,
-        length-append steps changed,
-        length-append (steps ++ changed) (stepsLine n),
-        accepted-most file n e,
-        accepted-consumed file n e,
-        remaining-length file n e,
-        lines-short (remaining file) (consumedIn file) (resumedFrom file)
-            (omega (arith, remaining-length file n e, accepted-most file n e, accepted-consumed file n e)),
-        rowLines-short (registersIn file) (ended file) 64 (omega arith),
-        steps-short n (omega (arith, accepted-most file n e)),
-      )
+        length-append lines (refusedLine (fileRefusalNumber (faultAt bytes k))),
+        refused-short (faultAt bytes k),
+        lines-short (calls bytes k) i s (omega (arith, h, count, few)),
+        count,
+        few,
+      ))
+      (omega (arith, length-append lines [], lines-short (calls bytes k) i s (omega (arith, h, count, few)), count, few))
 
-  by-opening : (o : Opened) → openedAs file ≡ o → length (textBy file o) ≤ roomLength
-  by-opening (Steps n) e = accepted-fits n e
-  by-opening (Refused Short) e = omega (arith, file-short 5 (omega arith))
-  by-opening (Refused Contents) e = omega (arith, file-short 6 (omega arith))
-  by-opening (Refused Padding) e = omega (arith, file-short 7 (omega arith))
+  end-fits : length (endText registers i s bytes) ≤ roomLength
+  end-fits =
+      either (λ (xs : List ℕ). length xs ≤ roomLength) (eqb (length bytes) 0)
+      (omega (arith, length-append (zLines registers s) (stepsLine i), rowLines-short registers s 64 (omega arith), steps-short i (omega (arith, h))))
+      (omega (arith, refused-short Contents))
 
-pub text-fits : Fits
-unfolding textOf
-text-fits file = by-opening file (openedAs file) refl
+pub fits : Fits
+fits left i registers s bytes h = (run-fits left i registers s bytes h, end-fits left i registers s bytes h)

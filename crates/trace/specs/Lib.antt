@@ -1,2 +1,4 @@
 pub mod Trace
+pub mod Runs
+pub mod Reading
 pub mod Resume

@@ -1,24 +1,23 @@
--- A trace file run on a lent state, and the text that is printed of it.
+-- The text that is printed of a trace file.
 -- Assumes nothing.
 use mathlib.Core.Path.{_≡_}
-use mathlib.Core.Bool.{Bool, cond, not, _&&_}
+use mathlib.Core.Bool.{Bool, cond, not}
 use mathlib.Core.List.{List, [], _++_}
-use Prim.Native.Nat.{ℕ, zero, suc, _+_, _*_, _≤_}
-use lib.Dec.{eqb, leb}
+use Prim.Native.Nat.{ℕ, zero, suc, _+_, _*_, _≤_, _<_}
+use lib.Dec.{eqb, ltb}
 use lib.ListN.{length, drop}
-use lib.Seq.{sets}
 use Rattle.number.specs.Bytes.{byteAt, table}
-use Rattle.isa.specs.State.{stateLength, zBase, rows, rowBytes}
+use Rattle.isa.specs.State.{zBase, rows, rowBytes}
 use Rattle.isa.specs.Call.{Call}
 use Rattle.isa.specs.Step.{run, answers}
 use Rattle.isa.specs.Swap.{swaps, Allowed}
 use Rattle.file.specs.declared.Opened.{Opened}
 use Rattle.file.specs.declared.Opened.the-variants.{Steps, Refused}
-use Rattle.file.specs.File.{fileRefusalNumber, all, openedAs, calls, stepCount, registersIn, stepsIn, consumedIn, resumedFrom}
+use Rattle.file.specs.declared.FileRefusal.the-variants.{Contents}
+use Rattle.file.specs.File.{fileRefusalNumber, all, hasCheckpoint, stepsBase, stepCount, stepAt, registersIn, startOf, stepsIn, consumedIn, resumedFrom}
+use Rattle.file.specs.File.{headAs, openedAs, soundIn, faultAt, calls}
 use Rattle.text.specs.Lines.{zLine, stepsLine, refusedLine}
 use Rattle.steps.specs.Steps.{stepLines}
-use Rattle.trace.specs.declared.Printed.{Printed}
-use Rattle.trace.specs.declared.Printed.the-variants.{Text, NoRoom}
 
 -- ---- rows
 
@@ -46,6 +45,24 @@ rowLines start end (suc n) = rowLines start end n ++ rowLine start end n
 abbrev pub zLines : List ℕ → List ℕ → List ℕ
 zLines start end = rowLines start end rows
 
+-- ---- steps as they are read
+
+-- all n steps are run: "One z line for each row that differs from the start", "then `steps` and n"; or the refusal, where bytes are behind the last step
+abbrev pub endText : List ℕ → ℕ → List ℕ → List ℕ → List ℕ
+endText registers n s behind =
+    cond (eqb (length behind) 0) (zLines registers s ++ stepsLine n) (refusedLine (fileRefusalNumber Contents))
+
+-- "So refusal 7 now comes at its record: earlier step lines have been printed, then `file refused 7` ends the output with no z lines. Refusal 6 for a
+-- wrong total length comes the same way, where the missing or extra bytes are met": the text of bytes that are read as steps, from step i on, where so
+-- many are left
+abbrev pub textRead : List ℕ → ℕ → ℕ → List ℕ → List ℕ → List ℕ
+textRead registers left i s bytes =
+    let k = soundIn bytes left in
+    stepLines (calls bytes k) i s
+    ++ cond (ltb k left)
+    (refusedLine (fileRefusalNumber (faultAt bytes k)))
+    (endText registers (i + k) (run (calls bytes k) s) (drop (stepAt k) bytes))
+
 -- ---- a file
 
 -- all steps of a file
@@ -60,52 +77,37 @@ remaining file = drop (consumedIn file) (callsIn file)
 abbrev pub ended : List ℕ → List ℕ
 ended file = run (remaining file) (resumedFrom file)
 
--- "Step numbers go on from the consumed count"; rows are held against the starting registers, wherever the run began; "then `steps` and n"
+-- the text of a file that is sound as a whole: "Step numbers go on from the consumed count"; rows are held against the starting registers, wherever the
+-- run began; "then `steps` and n"
 abbrev pub acceptedText : List ℕ → ℕ → List ℕ
 acceptedText file n = stepLines (remaining file) (consumedIn file) (resumedFrom file) ++ zLines (registersIn file) (ended file) ++ stepsLine n
 
--- "a refused file gives only `file refused 6` or its like"
-abbrev pub textBy : List ℕ → Opened → List ℕ
-textBy file (Steps n) = acceptedText file n
-textBy file (Refused r) = refusedLine (fileRefusalNumber r)
+-- "all of it is checked first, so its refusals still come before any line": with a checkpoint
+abbrev pub checkedText : List ℕ → Opened → List ℕ
+checkedText file (Steps n) = acceptedText file n
+checkedText file (Refused r) = refusedLine (fileRefusalNumber r)
 
+-- without one, by its head: the refusal alone, or the steps as they are read
+abbrev pub streamedText : List ℕ → Opened → List ℕ
+streamedText file (Steps n) = textRead (registersIn file) n 0 (startOf file) (drop (stepsBase file) file)
+streamedText file (Refused r) = refusedLine (fileRefusalNumber r)
+
+-- the text of a file, whatever its bytes are
 unfoldable pub textOf : List ℕ → List ℕ
-textOf file = textBy file (openedAs file)
-
--- the state that is left: a refused file runs no step
-abbrev pub endBy : List ℕ → List ℕ → Opened → List ℕ
-endBy file state (Steps n) = ended file
-endBy file state (Refused r) = state
-
-unfoldable pub endOf : List ℕ → List ℕ → List ℕ
-endOf file state = endBy file state (openedAs file)
-
--- ---- printing
-
--- bytes in which every text fits
-abbrev pub roomLength : ℕ
-roomLength = 131072
-
--- whether a state and a buffer have the lengths that printing asks for
-abbrev pub hasRoom : List ℕ → List ℕ → Bool
-hasRoom state out = eqb (length state) stateLength && leb roomLength (length out)
-
--- what printing answers: the length of the text, or that there is no room
-abbrev pub printedAs : List ℕ → List ℕ → List ℕ → Printed
-printedAs file state out = cond (hasRoom state out) (Text (length (textOf file))) NoRoom
-
--- the state and the buffer after printing
-abbrev pub stateAfter : List ℕ → List ℕ → List ℕ → List ℕ
-stateAfter file state out = cond (hasRoom state out) (endOf file state) state
-
-abbrev pub outAfter : List ℕ → List ℕ → List ℕ → List ℕ
-outAfter file state out = cond (hasRoom state out) (sets out 0 (textOf file)) out
+textOf file = cond (hasCheckpoint file) (checkedText file (openedAs file)) (streamedText file (headAs file))
 
 -- ---- what is proved of it
 
--- no text is cut
-abbrev pub Fits : Type 0
-Fits = (file : List ℕ) → length (textOf file) ≤ roomLength
+-- "Old accepted files mean what they meant and are written the same": what is sound as a whole, by rules of which only the limit was moved, has the text
+-- that it had
+abbrev pub Unchanged : Type 0
+Unchanged = (file : List ℕ) (n : ℕ) → openedAs file ≡ Steps n → textOf file ≡ acceptedText file n
+
+-- of two faults the first met counts: behind a whole step that is not sound nothing is looked at
+abbrev pub FirstMet : Type 0
+FirstMet =
+    (registers : List ℕ) (left i : ℕ) (s bytes rest : List ℕ) → soundIn bytes left < left → stepAt (suc (soundIn bytes left)) ≤ length bytes
+    → textRead registers left i s (bytes ++ rest) ≡ textRead registers left i s bytes
 
 -- "The steps of an accepted trace file are such a list": every chain of allowed swaps of them leaves the same state and the same answers. "When such a
 -- file is resumed, demand 3's list is the steps not yet consumed, run from the saved state."

@@ -1,18 +1,18 @@
-// A trace file run on a lent state, and its whole text in a lent buffer. Every function open to callers takes every argument.
+// The steps of a trace file, run by run on a lent state, and the text of each run in a lent buffer. Every function open to callers takes every argument.
 ghost use mathlib.Core.Path.{_≡_};
 ghost use Prim.Native.Nat.{_+_, _≤_, _<_};
 ghost use lib.ListN.{length};
 ghost use lib.Seq.{sets};
 ghost use Rattle.number.specs.Bytes.{byteAt, table};
-ghost use Rattle.isa.specs.State.{stateLength};
-ghost use Rattle.file.specs.File.{openedAs};
-ghost use Rattle.file.specs.declared.Opened.the-variants.{Steps};
-ghost use Rattle.trace.specs.Trace.{differ, rowLine, zLines, ended, acceptedText, printedAs, stateAfter, outAfter};
+ghost use Rattle.file.specs.File.{fileRefusalNumber, runOf};
+ghost use Rattle.text.specs.Lines.{refusedLine};
+ghost use Rattle.trace.specs.Trace.{differ, rowLine, zLines, endText};
+ghost use Rattle.trace.specs.Runs.{runText, ranTo, ranAs};
 
-// What printing answers: the length of the text, or that the state has not 5,128 bytes or the buffer too few for every text.
-pub enum Printed {
-    Text(usize),
-    NoRoom,
+// What a run answers: the length of its text, and whether the next one follows or the file is refused in it.
+pub enum Ran {
+    On(usize),
+    Stopped(usize),
 }
 
 // ---- rows of Z
@@ -71,42 +71,39 @@ fn print_rows(start: &[u8], state: &[u8], out: &mut [u8], from: usize) -> usize
 
 // ---- files
 
-// The text of an accepted file with n steps: of a run that goes on behind the consumed ones.
-fn print_accepted(file: &[u8], state: &mut [u8], out: &mut [u8], n: usize) -> usize
-    requires { ⌜ (openedAs (now file) ≡ Steps n) × (length (now state) ≡ stateLength) ⌝ }
-    ensures { λ r. ⌜ (now (state .exit) ≡ ended (now (file .entry)))
-        × (now (out .exit) ≡ sets (now (out .entry)) 0 (acceptedText (now (file .entry)) n))
-        × (r ≡ length (acceptedText (now (file .entry)) n)) ⌝ }
+// A run of the steps in these bytes, 2,048 at most, where so many are left: the sound ones run, with their lines, and the refusal where one is not.
+pub fn print_run(part: &[u8], state: &mut [u8], out: &mut [u8], first: u32, left: usize) -> Ran
+    ensures { λ r. ⌜ (now (state .exit) ≡ ranTo (runOf left) (now (state .entry)) (now (part .entry)))
+        × (now (out .exit) ≡ sets (now (out .entry)) 0 (runText (runOf left) first (now (state .entry)) (now (part .entry))))
+        × (r ≡ ranAs (runOf left) first (now (state .entry)) (now (part .entry))) ⌝ }
 {
-    file::load_state(file, state);
-    let consumed = file::consumed(file);
-    let base = file::steps_base(file);
-    let from = base + 16 * consumed as usize;
-    let end = base + 16 * n;
-    let at = steps::run(&file[from..end], state, out, consumed);
-    let registers = base - 5120;
-    let at = print_rows(&file[registers..base], state, out, at);
-    text::steps_line(out, at as u32, n as u32)
+    let m = file::run_of(left);
+    let k = file::sound_records(part, m as u32);
+    let at = steps::run(&part[..16 * k], state, out, first);
+    if k == m {
+        return Ran::On(at);
+    }
+    let number = file::file_refusal_number(file::fault_at(part, k as u32));
+    Ran::Stopped(text::refused_line(out, at as u32, number as u32))
 }
 
-// A file's whole text. Where there is no room, nothing is changed.
-pub fn print(file: &[u8], state: &mut [u8], out: &mut [u8]) -> Printed
-    ensures { λ r. ⌜ (now (state .exit) ≡ stateAfter (now (file .entry)) (now (state .entry)) (now (out .entry)))
-        × (now (out .exit) ≡ outAfter (now (file .entry)) (now (state .entry)) (now (out .entry)))
-        × (r ≡ printedAs (now (file .entry)) (now (state .entry)) (now (out .entry))) ⌝ }
+// The refusal of a file.
+pub fn print_refused(out: &mut [u8], refusal: file::FileRefusal) -> usize
+    ensures { λ r. ⌜ (now (out .exit) ≡ sets (now (out .entry)) 0 (refusedLine (fileRefusalNumber refusal)))
+        × (r ≡ length (refusedLine (fileRefusalNumber refusal))) ⌝ }
 {
-    if state.len() != 5128 {
-        return Printed::NoRoom;
+    let number = file::file_refusal_number(refusal);
+    text::refused_line(out, 0, number as u32)
+}
+
+// What ends the text of a file with n steps: the rows that differ from the starting registers, and n; or the refusal, where there are bytes behind them.
+pub fn print_end(registers: &[u8], state: &[u8], out: &mut [u8], n: u32, behind: &[u8]) -> usize
+    ensures { λ r. ⌜ (now (out .exit) ≡ sets (now (out .entry)) 0 (endText (now (registers .entry)) n (now (state .entry)) (now (behind .entry))))
+        × (r ≡ length (endText (now (registers .entry)) n (now (state .entry)) (now (behind .entry)))) ⌝ }
+{
+    if 0 < behind.len() {
+        return print_refused(out, file::FileRefusal::Contents);
     }
-    if out.len() < 131_072 {
-        return Printed::NoRoom;
-    }
-    let opened = file::open(file);
-    match opened {
-        file::Opened::Steps(n) => Printed::Text(print_accepted(file, state, out, n)),
-        file::Opened::Refused(r) => {
-            let number = file::file_refusal_number(r);
-            Printed::Text(text::refused_line(out, 0, number as u32))
-        }
-    }
+    let at = print_rows(registers, state, out, 0);
+    text::steps_line(out, at as u32, n)
 }

@@ -1,4 +1,6 @@
-use Rattle.file.proofs.Records.{record-same}
+use mathlib.Core.Path.{ap, _∙_}
+use Rattle.file.specs.File.{recordOf}
+use Rattle.file.proofs.Records.{call-part}
 use borrow.Author.Needs.{needs}
 use Rattle.file.proofs.record_at.Statement.{statement}
 use Rattle.file.proofs.record_at.Tie as tie
@@ -6,40 +8,43 @@ use Rattle.file.proofs.record_at.Tie as tie
 mul-at : tie.Need-mul-at
 mul-at c = search needs
 
-get8-requires : tie.Need-get8-requires
-get8-requires c κs = search needs
+add-end : tie.Need-add-end
+add-end c = search needs
 
-cast-t5 : tie.Need-cast-t5
-cast-t5 c = search needs
-
-add-get8 : tie.Need-add-get8
-add-get8 c = search needs
-
-get8-requires-2 : tie.Need-get8-requires-2
-get8-requires-2 c κs = search needs
-
-cast-t8 : tie.Need-cast-t8
-cast-t8 c = search needs
-
-add-get64 : tie.Need-add-get64
-add-get64 c = search needs
-
-get64-requires : tie.Need-get64-requires
-get64-requires c κs = search needs
+record-in-requires : tie.Need-record-in-requires
+record-in-requires c κs = search needs
 
 returns : tie.Need-returns
-returns c = record-same (c .before .before .get8 .ensures) (c .before .get82 .ensures) (c .get64 .ensures)
+returns c = search needs
+
+sub-record-in : tie.Need-sub-record-in
+sub-record-in c = search needs
+
+part-record-in-start : tie.Need-part-record-in-start
+part-record-in-start c = search needs
+
+part-record-in-end : tie.Need-part-record-in-end
+part-record-in-end c = search needs
+
+record-in-requires-2 : tie.Need-record-in-requires-2
+record-in-requires-2 c κs = search needs
+
+returns-2 : tie.Need-returns-2
+returns-2 c =
+    let whole = c .before .before in
+    let a = whole .before .before .args in
+    c .record-in2 .ensures ∙ ap recordOf (call-part (a .steps .now) (a .i) (whole .if1 .left))
 
 pub record-at-spec : {M : Type 1} → statement M
 record-at-spec =
     tie.close
     (tie.spec
     mul-at
-    get8-requires
-    cast-t5
-    add-get8
-    get8-requires-2
-    cast-t8
-    add-get64
-    get64-requires
-    returns)
+    add-end
+    record-in-requires
+    returns
+    sub-record-in
+    part-record-in-start
+    part-record-in-end
+    record-in-requires-2
+    returns-2)

@@ -2,7 +2,7 @@ use mathlib.Core.Path.{refl, _∙_}
 use Prim.Native.Nat.{_+_, _*_}
 use native.Mathlib.Omega.{arith}
 use borrow.Author.Tests.{not-true, not-false, le-leb, lt-leb}
-use Rattle.file.specs.File.{stepCount, entryIs}
+use Rattle.file.specs.File.{mostSteps, stepCount, entryIs}
 use Rattle.file.proofs.Contents.{entry-by, too-many, other-first, by-second}
 use borrow.Author.Needs.{needs}
 use Rattle.file.proofs.sections_right.Statement.{statement}
@@ -15,7 +15,7 @@ returns : tie.Need-returns
 returns c =
     let count = c .before in
     let file = count .before .before .args .file .now in
-    too-many file (lt-leb (stepCount file) 2048 (omega (arith, count .step-count .ensures .0, c .if1 .taken)))
+    too-many file (lt-leb (stepCount file) mostSteps (omega (arith, count .step-count .ensures .0, c .if1 .taken)))
 
 contents-length-requires : tie.Need-contents-length-requires
 contents-length-requires c κs = search needs
@@ -33,7 +33,7 @@ returns-2 c =
     let few = size .before in
     let count = few .before in
     let file = count .before .before .args .file .now in
-    other-first file (le-leb (stepCount file) 2048 (omega (arith, count .step-count .ensures .0, few .if1 .left)))
+    other-first file (le-leb (stepCount file) mostSteps (omega (arith, count .step-count .ensures .0, few .if1 .left)))
     (entry-by file 4 1 (size .contents-length .ensures .0) refl (first .entry-is .ensures) (not-true (first .entry-is .result) (c .if2 .taken)))
 
 add-entry-is : tie.Need-add-entry-is
@@ -55,7 +55,7 @@ returns-3 c =
     let n = count .step-count .ensures .0 in
     let file = count .before .before .args .file .now in
     c .entry-is2 .ensures ∙ (λ i. entryIs file 16 2 (size i + 5120) (16 * n i))
-    ∙ by-second file (le-leb (stepCount file) 2048 (omega (arith, n, few .if1 .left)))
+    ∙ by-second file (le-leb (stepCount file) mostSteps (omega (arith, n, few .if1 .left)))
     (entry-by file 4 1 size refl (first .entry-is .ensures) (not-false (first .entry-is .result) (there .if2 .left)))
 
 pub sections-right-spec : {M : Type 1} → statement M

@@ -3,6 +3,7 @@ mod case;
 mod counts;
 mod cuts;
 mod floats;
+mod long;
 mod sent;
 mod steps;
 mod swaps;
@@ -11,7 +12,11 @@ mod traces;
 
 use crate::tally::Tally;
 use amx::{random::Random, reference, text::parse_number};
-use std::{path::PathBuf, process::ExitCode, time::Instant};
+use std::{
+    path::{Path, PathBuf},
+    process::ExitCode,
+    time::Instant,
+};
 
 const HELP: &str = "\
 compare [OPTIONS]: the proved unit against the reference
@@ -115,18 +120,34 @@ fn compare(options: &Options) -> Result<(), String> {
     )?;
     println!("{cut} cuts of traces: the reference's files, and the lines of both parts are those of the whole ({})", tally.text());
     if options.trace.is_file() {
-        let program = traces::Program::new(&options.trace)?;
-        let (files, _) = program.compare(&mut random(6), steps / 1_000)?;
-        println!("{files} trace files of two sections and three, sound and damaged: the trace program prints the reference's text");
-        let text = |file: &[u8]| program.text(file);
-        let (cut, _) = cuts::cuts(cuts::proved_cut, &mut random(10), steps / 4_000, &[("the trace program", &text)])?;
-        println!("{cut} cuts of traces: the trace program goes on with them");
+        trace_program(&options.trace, random, steps)?;
     } else if options.need_trace {
         return Err(format!("there is no trace program {}\n", options.trace.display()));
     } else {
         println!("note: trace program skipped, there is no {}", options.trace.display());
     }
     println!("no difference, {:.1} s", start.elapsed().as_secs_f64());
+    Ok(())
+}
+
+/// The trace program on short files and cut ones, and with this crate on long ones.
+fn trace_program(program: &Path, random: impl Fn(u64) -> Random, steps: u64) -> Result<(), String> {
+    let program = traces::Program::new(program)?;
+    let (files, _) = program.compare(&mut random(6), steps / 1_000)?;
+    println!("{files} trace files of two sections and three, sound and damaged: the trace program prints the reference's text");
+    let text = |file: &[u8]| program.text(file);
+    let (cut, _) = cuts::cuts(cuts::proved_cut, &mut random(10), steps / 4_000, &[("the trace program", &text)])?;
+    println!("{cut} cuts of traces: the trace program goes on with them");
+    let both: [(&str, traces::Text); 2] = [("this crate", &traces::read_text), ("the trace program", &text)];
+    let (files, tally) = long::files(&mut random(13), &both)?;
+    println!(
+        "{files} trace files of one run of steps to three, damaged at their edges: both print the reference's text ({})",
+        tally.text()
+    );
+    let files = long::most(&mut random(14), &both)?;
+    println!("{files} trace files of a million steps and one more: both print the reference's text");
+    let files = long::pipes(&program, &mut random(15))?;
+    println!("{files} trace files from a pipe, a few bytes at a time: the trace program prints the reference's text");
     Ok(())
 }
 

@@ -2,17 +2,21 @@
 use crate::case::{Case, second};
 use crate::sent::{draw_count, draw_state, set_count};
 use crate::tally::Tally;
-use amx::{Call, Checkpoint, Instruction, REGISTER_BYTES, Record, STATE_LENGTH, State, Trace, random::Random, reference};
-use std::{fs, io, path::Path, path::PathBuf, process::Command};
+use amx::{
+    Call, Checkpoint, Instruction, REGISTER_BYTES, Record, STATE_LENGTH, State, Trace, TraceReader, print_trace, random::Random, reference,
+};
+use std::io::{self, Cursor, Write};
+use std::process::{Command, Output, Stdio};
+use std::{fs, path::Path, path::PathBuf, thread};
 
 /// What a program prints for a file.
 pub type Text<'a> = &'a dyn Fn(&[u8]) -> String;
 
 /// What is made of a case: a file of two sections, or one of three that goes on from a checkpoint; and its damage.
 #[derive(Clone, Debug)]
-struct Form {
-    checkpoint: Option<(Place, Saved)>,
-    damage: Damage,
+pub struct Form {
+    pub checkpoint: Option<(Place, Saved)>,
+    pub damage: Damage,
 }
 
 /// Where a run is stopped.
@@ -26,7 +30,7 @@ pub enum Place {
 
 /// The state that a checkpoint holds.
 #[derive(Clone, Copy, Debug)]
-enum Saved {
+pub enum Saved {
     /// The run's.
     Run,
     /// The run's, at another count.
@@ -37,9 +41,11 @@ enum Saved {
 
 /// What is done to a sound file.
 #[derive(Clone, Debug)]
-enum Damage {
+pub enum Damage {
     None,
     Cut(usize),
+    /// Cut after so many records, modulo one more than there are, and bytes.
+    After(u64, usize),
     Shorter(usize),
     Longer(usize),
     /// A byte of the table, turned.
@@ -48,7 +54,9 @@ enum Damage {
     Padding(u64, usize, u8),
     /// So many more steps consumed than there are.
     Consumed(u32),
-    /// Records past the most that a trace holds.
+    /// So many more records than there are, or fewer, by the table.
+    Announced(i64),
+    /// One record past the most that a trace holds, by the table.
     TooMany,
     Both(Box<Damage>, Box<Damage>),
 }
@@ -83,17 +91,23 @@ impl Saved {
 
     /// The state to go on from after the first records of a trace, by the reference.
     fn state(self, trace: &Trace, consumed: usize) -> State {
-        let first = trace.records()[..consumed].iter().map(|&record| record.into());
-        let mut state = Case::due(trace.start().bytes().to_vec(), first).run(second).state;
-        match self {
-            Saved::Run => {}
-            Saved::Count(count) => set_count(&mut state, count),
+        let run = || {
+            let first = trace.records()[..consumed].iter().map(|&record| record.into());
+            Case::due(trace.start().bytes().to_vec(), first).run(second).state
+        };
+        let state = match self {
+            Saved::Run => run(),
+            Saved::Count(count) => {
+                let mut state = run();
+                set_count(&mut state, count);
+                state
+            }
             Saved::Other(seed) => {
                 let mut random = Random::new(seed);
                 let count = draw_count(&mut random, 24);
-                state = draw_state(&mut random, STATE_LENGTH, count);
+                draw_state(&mut random, STATE_LENGTH, count)
             }
-        }
+        };
         State::from_bytes(state.try_into().expect("steps leave a state's length"))
     }
 }
@@ -110,9 +124,17 @@ fn put(file: &mut [u8], at: usize, number: usize) {
     }
 }
 
+/// Has the table of a file say so many records.
+fn announce(file: &mut [u8], sections: usize, records: usize) {
+    put(file, 24, 16 * records);
+    if sections == 3 {
+        put(file, 32, records_at(sections) + 16 * records);
+    }
+}
+
 impl Damage {
     fn draw(random: &mut Random) -> Self {
-        match random.below(12) {
+        match random.below(14) {
             0..=2 => Damage::None,
             3 => Damage::Cut(random.pick(&CUTS)),
             4 => Damage::Cut(random.below(12_000) as usize),
@@ -122,11 +144,13 @@ impl Damage {
             8 => Damage::Padding(random.bits(), random.below(6) as usize, 1 << random.below(8)),
             9 => Damage::Consumed(1 + (random.bits() as u32 >> random.below(32)) / 2),
             10 => Damage::TooMany,
+            11 => Damage::After(random.bits(), random.below(16) as usize),
+            12 => Damage::Announced(random.pick(&[-2, -1, 1, 2, 256, 1 << 12])),
             _ => Damage::both(Damage::draw(random), Damage::draw(random)),
         }
     }
 
-    fn both(first: Damage, then: Damage) -> Self {
+    pub fn both(first: Damage, then: Damage) -> Self {
         Damage::Both(Box::new(first), Box::new(then))
     }
 
@@ -140,20 +164,23 @@ impl Damage {
         let consumed = [1, 2, 253, 256, 1 << 16, 1 << 31, u32::MAX - 3];
         let lengths = CUTS.map(Damage::Cut).into_iter().chain(SHORTER.map(Damage::Shorter)).chain(LONGER.map(Damage::Longer));
         let mut every: Vec<Damage> = [Damage::None, Damage::TooMany].into_iter().chain(lengths).chain(table).chain(counts).collect();
-        every.extend(padding.chain(consumed.map(Damage::Consumed)));
-        // refused for its padding only where nothing comes before
-        for before in [Damage::Consumed(1), Damage::Shorter(1), Damage::Longer(1), Damage::Table(4, 1), Damage::Cut(20)] {
-            every.extend([0, 6].map(|record| Damage::both(Damage::Padding(record, 5, 1), before.clone())));
+        every.extend(padding.chain(consumed.map(Damage::Consumed)).chain([-1, 1, 256].map(Damage::Announced)));
+        // two sections are refused for the first that is met, three for their padding where nothing else is wrong
+        let others =
+            [Damage::Consumed(1), Damage::Shorter(1), Damage::Longer(1), Damage::Announced(1), Damage::Table(4, 1), Damage::Cut(20)];
+        for other in others.into_iter().chain([0, 8, 15].map(|bytes| Damage::After(6, bytes))) {
+            every.extend([0, 6, 7].map(|record| Damage::both(Damage::Padding(record, 5, 1), other.clone())));
         }
         every
     }
 
     /// Damages a file that was of so many sections and records.
-    fn apply(&self, file: &mut Vec<u8>, sections: usize, records: usize) {
+    pub fn apply(&self, file: &mut Vec<u8>, sections: usize, records: usize) {
         let end = records_at(sections) + 16 * records;
         match *self {
             Damage::None => {}
             Damage::Cut(length) => file.truncate(length),
+            Damage::After(part, bytes) => file.truncate(records_at(sections) + 16 * Place::Steps(part).of(records) + bytes),
             Damage::Shorter(less) => file.truncate(file.len().saturating_sub(less)),
             Damage::Longer(more) => file.extend(vec![0; more]),
             Damage::Table(at, turned) => file.iter_mut().take(4 + 12 * sections).skip(at).take(1).for_each(|byte| *byte ^= turned),
@@ -164,16 +191,8 @@ impl Damage {
             Damage::Padding(..) => {}
             Damage::Consumed(more) if sections == 3 => put(file, end, (records as u32).saturating_add(more) as usize),
             Damage::Consumed(_) => {}
-            Damage::TooMany => {
-                let more = 16 * (2_049 - records);
-                put(file, 24, 16 * 2_049);
-                if sections == 3 {
-                    put(file, 32, end + more);
-                }
-                if file.len() >= end {
-                    file.splice(end..end, vec![0; more]);
-                }
-            }
+            Damage::Announced(more) => announce(file, sections, records.saturating_add_signed(more as isize)),
+            Damage::TooMany => announce(file, sections, Trace::MAX_RECORDS + 1),
             Damage::Both(ref first, ref then) => {
                 first.apply(file, sections, records);
                 then.apply(file, sections, records);
@@ -198,7 +217,7 @@ pub fn trace_of(case: &Case) -> Trace {
     trace
 }
 
-fn file_of(case: &Case, form: &Form) -> Vec<u8> {
+pub fn file_of(case: &Case, form: &Form) -> Vec<u8> {
     let mut trace = trace_of(case);
     let records = trace.records().len();
     if let Some((place, saved)) = form.checkpoint {
@@ -211,13 +230,22 @@ fn file_of(case: &Case, form: &Form) -> Vec<u8> {
     file
 }
 
+/// The most steps that the trace program takes in a run.
+pub const RUN: usize = 2_048;
+
 /// A trace's start and calls.
 pub fn draw_case(random: &mut Random) -> Case {
-    let records = match random.below(16) {
-        0 => 0,
-        1 => 2_048,
-        _ => random.below(24),
+    let records = match random.below(32) {
+        0 | 1 => 0,
+        2 => RUN,
+        3 => RUN + random.below(24) as usize,
+        _ => random.below(24) as usize,
     };
+    draw_case_of(random, records)
+}
+
+/// The start and so many calls.
+pub fn draw_case_of(random: &mut Random, records: usize) -> Case {
     let state = random.state().bytes().to_vec();
     Case::due(state, (0..records).map(|_| random.record().into()))
 }
@@ -251,24 +279,32 @@ fn draw_files(random: &mut Random, files: u64) -> impl Iterator<Item = (Case, Fo
     forms.into_iter().map(move |form| (case.clone(), form)).chain(drawn)
 }
 
-/// The text of a file by this crate's reader and the proved step.
+/// The text of a file by this crate's reader and the proved step, and the count that the run ends at.
+fn read(file: &[u8]) -> (String, Option<u64>) {
+    let mut text = Vec::new();
+    let end = print_trace(TraceReader::seekable(Cursor::new(file)), &mut text).expect("bytes can be read twice, and memory takes the text");
+    (String::from_utf8(text).expect("the text is ASCII"), end.map(|state| state.count()))
+}
+
 pub fn read_text(file: &[u8]) -> String {
-    match Trace::from_bytes(file) {
-        Ok(trace) => trace.text(),
-        Err(refusal) => format!("{refusal}\n"),
-    }
+    read(file).0
 }
 
 /// The same, and the count that the run ends at.
 fn read_count(file: &[u8]) -> String {
-    let end = Trace::from_bytes(file).map(|trace| format!("count {}\n", trace.run().0.count()));
-    read_text(file) + &end.unwrap_or_default()
+    let (text, count) = read(file);
+    text + &count.map(|count| format!("count {count}\n")).unwrap_or_default()
+}
+
+/// The line that ends the text of a refused file.
+pub fn refusal(text: &str) -> Option<&str> {
+    text.lines().last().filter(|line| line.starts_with("file refused"))
 }
 
 /// The reference's text, and the count that its steps raise: that of the checkpoint, or else 0.
 fn reference_count(file: &[u8]) -> String {
     let text = reference::trace(file);
-    if text.starts_with("file refused") {
+    if refusal(&text).is_some() {
         return text;
     }
     let before = if file[0] == 3 { file.last_chunk().map_or(0, |count| u64::from_le_bytes(*count)) } else { 0 };
@@ -305,11 +341,13 @@ pub fn first_difference(names: [&str; 2], texts: [&str; 2]) -> String {
 }
 
 /// What the files of either kind must have met, and the steps of those that are resumed.
-const NEEDED: [&str; 20] = [
+const NEEDED: [&str; 22] = [
     "two sections: run",
     "two sections: file refused 5",
     "two sections: file refused 6",
     "two sections: file refused 7",
+    "two sections: file refused 6 after steps",
+    "two sections: file refused 7 after steps",
     "three sections: run",
     "three sections: file refused 5",
     "three sections: file refused 6",
@@ -330,8 +368,8 @@ const NEEDED: [&str; 20] = [
 
 fn tally_text(tally: &mut Tally, case: &Case, form: &Form, text: &str) {
     let sections = if form.checkpoint.is_some() { "three sections" } else { "two sections" };
-    let refused = text.lines().next().filter(|line| line.starts_with("file refused"));
-    tally.meet(format!("{sections}: {}", refused.unwrap_or("run")));
+    let after = if text.starts_with("step ") { " after steps" } else { "" };
+    tally.meet(refusal(text).map_or(format!("{sections}: run"), |refusal| format!("{sections}: {refusal}{after}")));
     if form.checkpoint.is_some() {
         for line in text.lines() {
             match line.split(' ').collect::<Vec<_>>().as_slice() {
@@ -386,6 +424,20 @@ impl<'a> Program<'a> {
             Ok(output) => String::from_utf8_lossy(&output.stdout).into_owned(),
             Err(error) => self.error(error),
         }
+    }
+
+    /// What it says of a file that comes through a pipe, a few bytes at a time.
+    pub fn piped(&self, file: &[u8], piece: usize) -> Result<Output, String> {
+        let mut command = Command::new(self.program);
+        command.arg("/dev/stdin").stdin(Stdio::piped()).stdout(Stdio::piped()).stderr(Stdio::piped());
+        let mut child = command.spawn().map_err(|error| self.error(error))?;
+        let mut input = child.stdin.take().expect("its standard input is a pipe");
+        let output = thread::scope(|scope| {
+            // nothing is held back between the pieces; a program may end before it has read all
+            scope.spawn(move || file.chunks(piece).try_for_each(|piece| input.write_all(piece)));
+            child.wait_with_output()
+        });
+        output.map_err(|error| self.error(error))
     }
 
     fn error(&self, error: io::Error) -> String {
