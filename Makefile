@@ -1,7 +1,8 @@
 # make run   a stored trace, printed; and the numbers at the edges, checked against the meaning
 # make host  the Rust package: built, tested, and the proved unit compared with a second program (needs cargo, no network)
 # make test  the gate: make host, then every crate proved from nothing, every must-fail edit refused
-# make bench the proved unit against a C version, then against the second program (needs a C compiler and cargo; no part of the gate)
+# make bench the proved unit against a C version, then against the second program; a million steps through amx_trace against the same steps alone
+#            (needs a C compiler and cargo; no part of the gate)
 .PHONY: run host test bench
 
 run:
@@ -29,9 +30,12 @@ B = target/bench
 
 bench:
 	rt staticlib amx
+	rt check amx_trace
 	mkdir -p $B
 	$(CC) -O3 -DNAME=unit_baseline -c bench/unit.c -o $B/baseline.o
 	$(CC) -O3 -march=native -DNAME=unit_native -c bench/unit.c -o $B/native.o
 	$(CC) -O2 bench/main.c $B/baseline.o $B/native.o target/staticlib/libamx.a -o $B/bench
+	$(CC) -O2 bench/trace.c target/staticlib/libamx.a -o $B/trace
 	$B/bench
 	$(CARGO) run --release --locked --offline --quiet --bin speed
+	$B/trace target/bin/amx_trace $B
