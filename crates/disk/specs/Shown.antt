@@ -22,7 +22,7 @@ pub record Ended (size : ℕ) : Type 0 where
   pub head : List ℕ
   pub ends : Follows head size []
 
--- printed: so many bytes. Unreadable and unwritable: what was written by then is the start of such a text.
+-- printed: so many bytes. What was written by then where a file cannot be read on, or standard output not written, no value tells.
 abbrev pub Holds : Shown → Type 0
 Holds (Printed size) = Ended size
 Holds Unreadable = Unit {0}

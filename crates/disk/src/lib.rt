@@ -1,5 +1,5 @@
-// A trace file by its name: read in pieces, its steps run by run, and its text written to standard output as it goes. No more of the file is held than a run. What C's
-// functions read and write no contract can say; what they are handed it can.
+// A trace file by its name: read in pieces, its steps run by run, and its text written to standard output as it goes. No more of the file is held than its
+// head, a run and the checkpoint. What C's functions read and write no contract can say; what they are handed it can.
 ghost use mathlib.Core.Path.{_≡_};
 ghost use mathlib.Core.Bool.{true, false};
 ghost use Prim.Native.Nat.{_+_, _-_, _*_, _≤_, _<_, _^_};

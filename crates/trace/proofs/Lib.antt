@@ -2,6 +2,7 @@ pub mod Halves
 pub mod Divided
 pub mod Sounds
 pub mod Begins
+pub mod Decided
 pub mod Told
 pub mod Closed
 pub mod Short

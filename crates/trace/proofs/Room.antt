@@ -62,8 +62,8 @@ module _ (m : ℕ) (part : List ℕ) where
 abbrev pub Runs : ℕ → ℕ → List ℕ → List ℕ → List ℕ → List ℕ → List ℕ → Ran → Type 0
 Runs m i s part out s′ out′ r = (s′ ≡ ranTo m s part) × (out′ ≡ sets out 0 (runText m i s part)) × (r ≡ ranAs m i s part)
 
-module _ (m left i : ℕ) (told : m ≡ runOf left) (s part out s′ out′ : List ℕ) (k at : ℕ) (cs : List Call) (found : k ≡ soundIn part m) (lent : cs ≡ calls part k)
-    (ran : s′ ≡ run cs s) (lines : out′ ≡ sets out 0 (stepLines cs i s)) (size : at ≡ length (stepLines cs i s)) where
+module _ (m left i : ℕ) (told : m ≡ runOf left) (s part out s′ out′ : List ℕ) (k at : ℕ) (cs : List Call) (found : k ≡ soundIn part m)
+    (lent : cs ≡ calls part k) (ran : s′ ≡ run cs s) (lines : out′ ≡ sets out 0 (stepLines cs i s)) (size : at ≡ length (stepLines cs i s)) where
   these : cs ≡ calls part (soundIn part m)
   these = lent ∙ ap (calls part) found
 

@@ -1,24 +1,20 @@
--- Steps that are all sound, and the text of a file that is sound as a whole; and what is read behind a step that is not.
+-- Steps that are all sound, and the text of a file that is sound as a whole.
 -- Assumes nothing.
 use mathlib.Core.Path.{_≡_, refl, sym, ap, _∙_}
-use mathlib.Core.Bool.{Bool, true, false, cond}
+use mathlib.Core.Bool.{true, false}
 use mathlib.Core.List.{List, _++_, append-assoc}
-use Prim.Native.Nat.{ℕ, suc, _+_, _-_, _*_, _≤_, _<_}
-use native.Mathlib.Nat.{zero-add}
+use Prim.Native.Nat.{ℕ, _+_, _-_, _*_, _≤_, _<_}
 use native.Mathlib.Omega.{arith}
-use borrow.Author.Tests.{eq-eqb, lt-ltb, le-ltb}
-use lib.Dec.{eqb, ltb}
-use lib.ListN.{length, take, drop, length-append, length-drop, List·getD-append}
+use borrow.Author.Tests.{eq-eqb, le-ltb}
+use lib.ListN.{length, take, drop, length-drop}
 use lib.Seq.{take-all}
 use Rattle.number.specs.Bytes.{byteAt}
 use Rattle.number.proofs.Tests.{pick-true, pick-false, two}
-use Rattle.number.proofs.Bytes.{table-same}
-use Rattle.isa.specs.Call.{Call}
 use Rattle.isa.specs.Step.{run}
 use Rattle.file.specs.declared.Opened.the-variants.{Steps}
-use Rattle.file.specs.File.{fileRefusalNumber, bytesFrom, hasCheckpoint, stepsBase, stepAt, stepCount, registersIn, startOf, stepsIn, consumedIn, resumedFrom}
-use Rattle.file.specs.File.{sound, soundIn, faultAt, callAt, calls, paddingClear, paddingsClear, headAs, openedAs}
-use Rattle.file.proofs.Sound.{sound-is, sound-there, sound-before, sound-fault, sound-whole, padding-moved}
+use Rattle.file.specs.File.{bytesFrom, hasCheckpoint, stepsBase, stepAt, stepCount, registersIn, startOf, stepsIn, consumedIn, resumedFrom}
+use Rattle.file.specs.File.{soundIn, calls, paddingClear, paddingsClear, headAs, openedAs}
+use Rattle.file.proofs.Sound.{sound-is, sound-there, padding-moved}
 use Rattle.file.proofs.Paddings.{all-at, all-true}
 use Rattle.file.proofs.Parts.{length-from, byte-from, part-between}
 use Rattle.file.proofs.Records.{calls-rest}
@@ -26,11 +22,10 @@ use Rattle.file.proofs.Contents.{consumed-none, contents-two}
 use Rattle.file.proofs.States.{resumed-start}
 use Rattle.file.proofs.Accepted.{accepted-contents, accepted-count, accepted-consumed, accepted-paddings}
 use Rattle.file.proofs.Heads.{opened-head}
-use Rattle.text.specs.Lines.{refusedLine, stepsLine}
+use Rattle.text.specs.Lines.{stepsLine}
 use Rattle.steps.specs.Steps.{stepLines}
-use Rattle.trace.specs.Trace.{zLines, endText, textRead, callsIn, remaining, ended, acceptedText, checkedText, streamedText, textOf, Unchanged, FirstMet}
+use Rattle.trace.specs.Trace.{zLines, endText, textRead, callsIn, remaining, ended, acceptedText, checkedText, streamedText, textOf, Unchanged}
 use Rattle.trace.specs.Reading.{againText, shown, leftIn, ReadTwice}
-use Rattle.trace.proofs.Halves.{Alike, alike-sound, alike-call, alike-fault}
 use Rattle.trace.proofs.Divided.{behind, by-sound}
 
 -- ---- all n are sound, and nothing is behind them
@@ -135,41 +130,3 @@ unchanged file n opened = text-accepted file n opened
 
 pub read-twice : ReadTwice
 read-twice file n opened = shown-again file n opened
-
--- ---- a whole step that is not sound
-
-module _ (left : ℕ) (bytes rest : List ℕ) where
-  abbrev m : ℕ
-  m = soundIn bytes left
-
-  longer : (j : ℕ) → stepAt (suc j) ≤ length bytes → Alike (bytes ++ rest) bytes j j
-  longer j w = record {
-    bytes = λ b l. List·getD-append bytes rest 0 (16 * j + b) (omega (arith, w, l));
-    there = λ e. w;
-    back = λ e. omega (arith, w, length-append bytes rest);
-  }
-
-  before : (j : ℕ) → j < m → Alike (bytes ++ rest) bytes j j
-  before j h = longer j (sound-whole bytes j (sound-before bytes left j h))
-
-  module _ (h : m < left) (w : stepAt (suc m) ≤ length bytes) where
-    pub same-sound : soundIn (bytes ++ rest) left ≡ m
-    same-sound =
-        sound-is (bytes ++ rest) left m (omega (arith, h))
-        (λ j l. alike-sound (bytes ++ rest) bytes j j (before j l) ∙ sound-before bytes left j l)
-        (λ l. alike-sound (bytes ++ rest) bytes m m (longer m w) ∙ sound-fault bytes left h)
-
-    pub first-read : (registers : List ℕ) (i : ℕ) (s : List ℕ) → textRead registers left i s (bytes ++ rest) ≡ textRead registers left i s bytes
-    first-read registers i s =
-        let test = lt-ltb m left h in
-        let cs : calls (bytes ++ rest) m ≡ calls bytes m =
-        table-same (callAt (bytes ++ rest)) (callAt bytes) m (λ j l. alike-call (bytes ++ rest) bytes j j (before j l))
-        in
-        let fault = alike-fault (bytes ++ rest) bytes m m (longer m w) in
-        by-sound registers i s (bytes ++ rest) left m same-sound
-        ∙ ap (λ (xs : List ℕ). stepLines (calls (bytes ++ rest) m) i s ++ xs) (pick-true _ _ test)
-        ∙ (λ t. stepLines (cs t) i s ++ refusedLine (fileRefusalNumber (fault t)))
-        ∙ sym (by-sound registers i s bytes left m refl ∙ ap (λ (xs : List ℕ). stepLines (calls bytes m) i s ++ xs) (pick-true _ _ test))
-
-pub first-met : FirstMet
-first-met registers left i s bytes rest h w = first-read left bytes rest h w registers i s

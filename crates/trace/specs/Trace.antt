@@ -3,7 +3,7 @@
 use mathlib.Core.Path.{_≡_}
 use mathlib.Core.Bool.{Bool, cond, not}
 use mathlib.Core.List.{List, [], _++_}
-use Prim.Native.Nat.{ℕ, zero, suc, _+_, _*_, _≤_, _<_}
+use Prim.Native.Nat.{ℕ, zero, suc, _+_, _*_}
 use lib.Dec.{eqb, ltb}
 use lib.ListN.{length, drop}
 use Rattle.number.specs.Bytes.{byteAt, table}
@@ -102,12 +102,6 @@ textOf file = cond (hasCheckpoint file) (checkedText file (openedAs file)) (stre
 -- that it had
 abbrev pub Unchanged : Type 0
 Unchanged = (file : List ℕ) (n : ℕ) → openedAs file ≡ Steps n → textOf file ≡ acceptedText file n
-
--- of two faults the first met counts: behind a whole step that is not sound nothing is looked at
-abbrev pub FirstMet : Type 0
-FirstMet =
-    (registers : List ℕ) (left i : ℕ) (s bytes rest : List ℕ) → soundIn bytes left < left → stepAt (suc (soundIn bytes left)) ≤ length bytes
-    → textRead registers left i s (bytes ++ rest) ≡ textRead registers left i s bytes
 
 -- "The steps of an accepted trace file are such a list": every chain of allowed swaps of them leaves the same state and the same answers. "When such a
 -- file is resumed, demand 3's list is the steps not yet consumed, run from the saved state."

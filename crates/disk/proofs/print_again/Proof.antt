@@ -43,10 +43,11 @@ print-runs-requires c κs =
     let consumed = loaded .before .before .before .before in
     let start = consumed .before .before .before .before in
     let a = start .args in
-    let p = start .pre in (
-      saved-told (a .head .now) (a .last .now) (replicate 5128 0) (loaded .load-saved .last .1 .0) (a .n) (consumed .consumed .result) _ (consumed .consumed .ensures)
+    let p = start .pre in
+    let number = consumed .consumed in (
+      saved-told (a .head .now) (a .last .now) (replicate 5128 0) (loaded .load-saved .last .1 .0) (a .n) (number .result) _ (number .ensures)
           (length-replicate {A = ℕ} 5128 0) (loaded .load-saved .ensures) (p .0),
-      omega (arith, consumed .consumed .ensures, p .1),
+      omega (arith, number .ensures, p .1),
       p .2,
       p .4,
     )
