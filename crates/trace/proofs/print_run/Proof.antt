@@ -47,7 +47,8 @@ returns c =
     let k = found .sound-records .result in
     let lent = lent-calls m (a .part .now) k (found .sound-records .ensures) (run-of .run-of .ensures .1) in
     runs-on m (a .left) (a .first) (run-of .run-of .ensures .0) (a .state .now) (a .part .now) (a .out .now)
-    (ran .run .last .1 .0) (ran .run .last .1 .1 .0) k (ran .run .result) _ (found .sound-records .ensures) lent (ran .run .ensures .0 .0) (ran .run .ensures .0 .1) (ran .run .ensures .0 .2) (c .if1 .taken)
+    (ran .run .last .1 .0) (ran .run .last .1 .1 .0) k (ran .run .result) _
+    (found .sound-records .ensures) lent (ran .run .ensures .0 .0) (ran .run .ensures .0 .1) (ran .run .ensures .0 .2) (c .if1 .taken)
 
 cast-fault-at : tie.Need-cast-fault-at
 cast-fault-at c =
@@ -96,7 +97,8 @@ returns-2 c =
     (number .file-refusal-number .ensures .0) (line .refused-line .ensures)
     in
     runs-stop m (a .left) (a .first) (run-of .run-of .ensures .0) (a .state .now) (a .part .now) (a .out .now)
-    (ran .run .last .1 .0) out k (ran .run .result) _ (found .sound-records .ensures) lent (ran .run .ensures .0 .0) (ran .run .ensures .0 .1) (ran .run .ensures .0 .2) (stopped .if1 .left)
+    (ran .run .last .1 .0) out k (ran .run .result) _
+    (found .sound-records .ensures) lent (ran .run .ensures .0 .0) (ran .run .ensures .0 .1) (ran .run .ensures .0 .2) (stopped .if1 .left)
     refusal (fault .fault-at .ensures) (line .refused-line .last .0) (line .refused-line .result) stored
 
 pub print-run-spec : {M : Type 1} → statement M
