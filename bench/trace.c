@@ -161,6 +161,7 @@ static void compare(int size) {
     exit(1);
 }
 
+// The system counts pages in batches, so that some hundred kB more or less are the same.
 static void print_memory(void) {
     printf("peak memory of amx_trace:");
     for (int size = 0; size < SIZES; size++) printf("%s %d steps %ld kB", size ? "," : "", steps_of[size], run_trace(size).kilobytes);
