@@ -119,8 +119,9 @@ module _ (registers : List ℕ) (n : ℕ) (s behind out : List ℕ) where
       stored-end (refusedLine (fileRefusalNumber Contents)) out′ r
       (sym (pick-false _ _ (ne-eqb (length behind) 0 (λ e. omega (arith, h, e))))) stored
 
-  pub ends-here : length behind ≤ 0 → (out₁ out′ : List ℕ) (at r : ℕ) → Stored out 0 (zLines registers s) out₁ at → Stored out₁ at (stepsLine n) out′ r
-      → Ends out′ r
-  ends-here h out₁ out′ at r rows last =
+  pub ends-here : length behind ≤ 0 → (out₁ out′ : List ℕ) (at r : ℕ)
+      → (out₁ ≡ sets out 0 (zLines registers s)) × (at ≡ length (zLines registers s)) → Stored out₁ at (stepsLine n) out′ r → Ends out′ r
+  ends-here h out₁ out′ at r (e, l) last =
       stored-end (zLines registers s ++ stepsLine n) out′ r (sym (pick-true _ _ (eq-eqb (length behind) 0 (omega (arith, h)))))
-      (stored-front out out′ (zLines registers s ++ stepsLine n) r (stored-append out out₁ out′ 0 at r (zLines registers s) (stepsLine n) rows last))
+      (stored-front out out′ (zLines registers s ++ stepsLine n) r
+      (stored-append out out₁ out′ 0 at r (zLines registers s) (stepsLine n) (e, l ∙ sym (zero-add (length (zLines registers s)))) last))

@@ -74,14 +74,14 @@ row-printed out out′ at at′ line line′ e short s =
 
 -- ---- all rows
 
-pub rows-more : (start end out₀ out out′ : List ℕ) (r from at at′ : ℕ) → Stored out₀ from (rowLines start end r) out at
-    → Stored out at (rowLine start end r) out′ at′ → Stored out₀ from (rowLines start end (r + 1)) out′ at′
-rows-more start end out₀ out out′ r from at at′ front back =
-    subst (λ (k : ℕ). Stored out₀ from (rowLines start end k) out′ at′) (sym (add-one r))
-    (stored-append out₀ out out′ from at at′ (rowLines start end r) (rowLine start end r) front back)
+pub rows-more : (start end out₀ out out′ : List ℕ) (r at at′ : ℕ) → Stored out₀ 0 (rowLines start end r) out at
+    → Stored out at (rowLine start end r) out′ at′ → Stored out₀ 0 (rowLines start end (r + 1)) out′ at′
+rows-more start end out₀ out out′ r at at′ front back =
+    subst (λ (k : ℕ). Stored out₀ 0 (rowLines start end k) out′ at′) (sym (add-one r))
+    (stored-append out₀ out out′ 0 at at′ (rowLines start end r) (rowLine start end r) front back)
 
-pub rows-all : (start end out₀ out : List ℕ) (r from at : ℕ) → r ≤ 64 → 64 ≤ r → Stored out₀ from (rowLines start end r) out at
-    → Stored out₀ from (zLines start end) out at
-rows-all start end out₀ out r from at h l s =
+pub rows-all : (start end out₀ out : List ℕ) (r at : ℕ) → r ≤ 64 → 64 ≤ r → Stored out₀ 0 (rowLines start end r) out at
+    → Stored out₀ 0 (zLines start end) out at
+rows-all start end out₀ out r at h l s =
     let same : r ≡ 64 = omega arith in
-    subst (λ (k : ℕ). Stored out₀ from (rowLines start end k) out at) same s
+    subst (λ (k : ℕ). Stored out₀ 0 (rowLines start end k) out at) same s

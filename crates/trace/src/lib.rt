@@ -56,13 +56,12 @@ fn print_row(start: &[u8], state: &[u8], out: &mut [u8], at: usize, row: usize) 
     text::z_line(out, at as u32, row as u32, &after)
 }
 
-fn print_rows(start: &[u8], state: &[u8], out: &mut [u8], from: usize) -> usize
-    requires { ⌜ from ≤ 112640 ⌝ }
-    ensures { λ r. ⌜ (now (out .exit) ≡ sets (now (out .entry)) from (zLines (now (start .entry)) (now (state .entry))))
-        × (r ≡ from + length (zLines (now (start .entry)) (now (state .entry)))) ⌝ }
-    ensures short { λ r. ⌜ r ≤ from + 9728 ⌝ }
+fn print_rows(start: &[u8], state: &[u8], out: &mut [u8]) -> usize
+    ensures { λ r. ⌜ (now (out .exit) ≡ sets (now (out .entry)) 0 (zLines (now (start .entry)) (now (state .entry))))
+        × (r ≡ length (zLines (now (start .entry)) (now (state .entry)))) ⌝ }
+    ensures short { λ r. ⌜ r ≤ 9728 ⌝ }
 {
-    let mut at = from;
+    let mut at = 0;
     for row in 0..64 {
         at = print_row(start, state, out, at, row);
     }
@@ -104,6 +103,6 @@ pub fn print_end(registers: &[u8], state: &[u8], out: &mut [u8], n: u32, behind:
     if 0 < behind.len() {
         return print_refused(out, file::FileRefusal::Contents);
     }
-    let at = print_rows(registers, state, out, 0);
+    let at = print_rows(registers, state, out);
     text::steps_line(out, at as u32, n)
 }

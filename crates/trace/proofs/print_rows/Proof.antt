@@ -1,24 +1,24 @@
-use mathlib.Core.Path.{refl, sym, ap, _∙_}
+use mathlib.Core.Path.{refl, ap, _∙_}
 use Prim.Native.Nat.{_+_, _-_, _*_, _≤_}
-use native.Mathlib.Nat.{add-zero}
 use native.Mathlib.Omega.{arith}
 use lib.ListN.{length}
 use lib.Seq.{length-sets}
 use borrow.Author.Needs.{needs}
 use Rattle.text.proofs.Pieces.{Stored}
-use Rattle.trace.specs.Trace.{rowLines}
+use Rattle.trace.specs.Trace.{rowLines, zLines}
 use Rattle.trace.proofs.Rows.{rows-more, rows-all}
+use Rattle.trace.proofs.Room.{stored-front}
 use Rattle.trace.proofs.print_rows.Statement.{statement}
 use Rattle.trace.proofs.print_rows.Tie as tie
 
 abbrev Inv-loop : tie.InvT-loop
-Inv-loop start state out₀ from at₀ row₀ out at row = (row ≤ 64) × (at ≤ from + 152 * row) × Stored out₀ from (rowLines start state row) out at
+Inv-loop start state out₀ at₀ row₀ out at row = (row ≤ 64) × (at ≤ 152 * row) × Stored out₀ 0 (rowLines start state row) out at
 
 abbrev μ-loop : tie.MeasureT-loop
-μ-loop start state out₀ from at₀ row₀ out at row = 64 - row
+μ-loop start state out₀ at₀ row₀ out at row = 64 - row
 
 loop-holds : tie.Need-loop-holds Inv-loop μ-loop
-loop-holds c = (omega arith, omega arith, (refl, sym (add-zero (c .before .before .before .args .from))))
+loop-holds c = (omega arith, omega arith, (refl, refl))
 
 print-row-requires : tie.Need-print-row-requires Inv-loop μ-loop
 print-row-requires c κs = search needs
@@ -36,7 +36,7 @@ loop-again c =
     let a = turn .before .before .before .before .args in (
       omega arith,
       omega (arith, printed .print-row .ensures .1, turn .loop .inv .1),
-      rows-more (a .start .now) (a .state .now) (a .out .now) (turn .loop .out) (printed .print-row .last .1 .1 .0) (turn .loop .row) (a .from)
+      rows-more (a .start .now) (a .state .now) (a .out .now) (turn .loop .out) (printed .print-row .last .1 .1 .0) (turn .loop .row)
           (turn .loop .at) (printed .print-row .result) (turn .loop .inv .2) (printed .print-row .ensures .0),
     )
 
@@ -44,14 +44,15 @@ same-length : tie.Need-same-length Inv-loop μ-loop
 same-length c =
     let turn = c .before in
     let a = turn .before .before .before .before .args in
-    ap length (turn .loop .inv .2 .0) ∙ length-sets (a .out .now) (a .from) (rowLines (a .start .now) (a .state .now) (turn .loop .row))
+    ap length (turn .loop .inv .2 .0) ∙ length-sets (a .out .now) 0 (rowLines (a .start .now) (a .state .now) (turn .loop .row))
 
 returns : tie.Need-returns Inv-loop μ-loop
 returns c =
     let turn = c .before in
     let a = turn .before .before .before .before .args in (
-      rows-all (a .start .now) (a .state .now) (a .out .now) (turn .loop .out) (turn .loop .row) (a .from) (turn .loop .at) (turn .loop .inv .0)
-          (c .loop-test .left) (turn .loop .inv .2),
+      stored-front (a .out .now) (turn .loop .out) (zLines (a .start .now) (a .state .now)) (turn .loop .at)
+          (rows-all (a .start .now) (a .state .now) (a .out .now) (turn .loop .out) (turn .loop .row) (turn .loop .at) (turn .loop .inv .0)
+          (c .loop-test .left) (turn .loop .inv .2)),
       omega (arith, turn .loop .inv .0, turn .loop .inv .1),
     )
 
