@@ -21,7 +21,7 @@ use Rattle.trace.specs.declared.Ran.the-variants.{On, Stopped}
 use Rattle.trace.specs.Trace.{endText, textRead}
 use Rattle.trace.specs.Runs.{runText, ranTo, ranAs, roomLength}
 use Rattle.trace.specs.Reading.{Follows, Says, Told}
-use Rattle.trace.proofs.Short.{run-left, refused-short, fits}
+use Rattle.trace.proofs.Short.{run-fits-in, refused-short, fits}
 use Rattle.trace.proofs.Room.{sound-room}
 use Rattle.trace.proofs.Told.{says-run, told-run, said-stop, said-end}
 use Rattle.disk.specs.declared.Shown.the-variants.{Printed, Unreadable, Unwritable}
@@ -145,7 +145,7 @@ module _ (head : List ℕ) (n i : ℕ) (s : List ℕ) (at : ℕ) (told : Told he
   lines = runText m i s part
 
   inside : i + m ≤ n
-  inside = omega (arith, less, run-left (n - i))
+  inside = omega (arith, less, run-fits-in (n - i) .1)
 
   short : length lines ≤ roomLength
   short = fits (n - i) i [] s part (omega (arith, less, small)) .0

@@ -133,17 +133,9 @@ module _ (file : List ℕ) where
   table-two a b = sym (λ t. a t && cond (b t) third counted)
 
   -- the same with what was consumed, and with the length of the file
-  pub other-third : third ≡ false → false ≡ checkpointRight file
-  unfolding checkpointRight
-  other-third a = sym (λ t. a t && within)
-
   pub by-consumed : third ≡ true → within ≡ checkpointRight file
   unfolding checkpointRight
   by-consumed a = sym (λ t. a t && within)
-
-  pub other-sections : sectionsRight file ≡ false → false ≡ contentsRight file
-  unfolding contentsRight
-  other-sections a = sym (λ t. a t && behind)
 
   pub other-checkpoint : sectionsRight file ≡ true → hasCheckpoint file ≡ true → checkpointRight file ≡ false → false ≡ contentsRight file
   unfolding contentsRight
@@ -152,14 +144,6 @@ module _ (file : List ℕ) where
   pub by-closed : sectionsRight file ≡ true → hasCheckpoint file ≡ true → checkpointRight file ≡ true → closed ≡ contentsRight file
   unfolding contentsRight
   by-closed a b d = sym (λ t. a t && cond (b t) (d t && closed) (counted && ended))
-
-  pub other-count : sectionsRight file ≡ true → hasCheckpoint file ≡ false → counted ≡ false → false ≡ contentsRight file
-  unfolding contentsRight
-  other-count a b d = sym (λ t. a t && cond (b t) (checkpointRight file && closed) (d t && ended))
-
-  pub by-ended : sectionsRight file ≡ true → hasCheckpoint file ≡ false → counted ≡ true → ended ≡ contentsRight file
-  unfolding contentsRight
-  by-ended a b d = sym (λ t. a t && cond (b t) (checkpointRight file && closed) (d t && ended))
 
   -- ---- what a right table says
 

@@ -4,13 +4,13 @@ use mathlib.Core.Path.{_≡_, refl, sym, ap, subst, _∙_}
 use mathlib.Core.Bool.{Bool, true, false, _&&_}
 use mathlib.Core.List.{List}
 use mathlib.Core.Logic.{⊎-elim}
-use Prim.Native.Nat.{ℕ, zero, suc, _+_, _*_, _≤_, _<_, suc-le-suc}
+use Prim.Native.Nat.{ℕ, zero, suc, _+_, _*_, _<_, suc-le-suc}
 use native.Mathlib.Nat.{add-zero, add-suc, suc-add, zero-lt-suc, not-suc-le-zero, le-of-suc-le-suc}
 use native.Mathlib.Omega.{arith}
 use borrow.Author.Tests.{eq-eqb, eqb-true, eqb-false}
 use lib.Dec.{eqb}
 use Rattle.number.specs.Bytes.{byteAt, number}
-use Rattle.number.proofs.Tests.{and-left, and-right, is-false, true-false, lt-or-le, two}
+use Rattle.number.proofs.Tests.{and-left, and-right, is-false, lt-or-le, two}
 use Rattle.number.proofs.Slice.{number-add}
 use Rattle.file.specs.File.{all, stepAt, paddingClear, paddingsClear}
 
@@ -96,19 +96,3 @@ module _ (steps : List ℕ) where
   pub paddings-none : paddingsClear steps 0 ≡ true
   unfolding paddingsClear
   paddings-none = refl
-
-  pub paddings-more : (i : ℕ) → paddingsClear steps i ≡ true → paddingClear steps i ≡ true → paddingsClear steps (i + 1) ≡ true
-  unfolding paddingsClear
-  paddings-more i e f =
-      let next : i + 1 ≡ suc i = omega arith in
-      ap (all (paddingClear steps)) next ∙ (λ t. e t && f t)
-
-  pub paddings-set : (n i : ℕ) → i < n → paddingClear steps i ≡ false → false ≡ paddingsClear steps n
-  unfolding paddingsClear
-  paddings-set n i h f =
-      sym (is-false (all (paddingClear steps) n) (λ t. true-false (sym (all-at (paddingClear steps) n t i h) ∙ f)))
-
-  pub paddings-all : (n i : ℕ) → paddingsClear steps i ≡ true → i ≤ n → n ≤ i → true ≡ paddingsClear steps n
-  paddings-all n i e h l =
-      let same : n ≡ i = omega arith in
-      sym (ap (paddingsClear steps) same ∙ e)

@@ -10,11 +10,11 @@ use lib.Dec.{eqb, leb}
 use lib.ListN.{length}
 use lib.Seq.{sets}
 use Rattle.number.specs.Bytes.{bytesOf, byteOf}
-use Rattle.number.proofs.Tests.{pick-true, pick-false, either}
+use Rattle.number.proofs.Tests.{pick-true, pick-false}
 use Rattle.number.proofs.Bytes.{length-table}
 use Rattle.number.proofs.Slice.{sets-joined}
-use Rattle.isa.specs.State.{registerBytes, stateLength, countOf}
-use Rattle.isa.proofs.Registers.{length-state, count-state}
+use Rattle.isa.specs.State.{registerBytes, stateLength}
+use Rattle.isa.proofs.Registers.{length-state}
 use Rattle.file.specs.File.{bytesFrom, hasCheckpoint, checkpointLength, contentsLength, stepsEnd, registersIn, startOf, savedIn, resumedFrom}
 use Rattle.file.specs.File.{loadedStart, loadedSaved, storable, checkpointIn, storedBytes}
 use Rattle.file.proofs.Parts.{length-from, whole-from, sets-whole}
@@ -32,14 +32,8 @@ module _ (file : List ℕ) where
   pub length-start : length (startOf file) ≡ stateLength
   length-start = length-state (registersIn file) 0 length-in
 
-  pub count-start : countOf (startOf file) ≡ 0
-  count-start = count-state (registersIn file) 0 length-in
-
   length-saved : length (savedIn file) ≡ stateLength
   length-saved = length-from file (stepsEnd file + 4) stateLength
-
-  pub length-resumed : length (resumedFrom file) ≡ stateLength
-  length-resumed = either (λ (s : List ℕ). length s ≡ stateLength) (hasCheckpoint file) length-saved length-start
 
   pub resumed-saved : hasCheckpoint file ≡ true → resumedFrom file ≡ savedIn file
   resumed-saved = pick-true _ _

@@ -133,15 +133,21 @@ sectionsRight file =
     && entryIs file 4 1 (contentsLength file) registerBytes
     && entryIs file 16 2 (stepsBase file) (stepBytes * stepCount file)
 
+-- the checkpoint's entry; and that there is none
+abbrev pub thirdIs : List ℕ → Bool
+thirdIs file = entryIs file 28 3 (stepsEnd file) checkpointLength
+
+abbrev pub twoSections : List ℕ → Bool
+twoSections file = eqb (sectionCount file) 2
+
 -- the checkpoint, with no more steps consumed than there are
 unfoldable pub checkpointRight : List ℕ → Bool
-checkpointRight file = entryIs file 28 3 (stepsEnd file) checkpointLength && leb (consumedIn file) (stepCount file)
+checkpointRight file = thirdIs file && leb (consumedIn file) (stepCount file)
 
 -- the whole table: two sections, or three
 unfoldable pub tableRight : List ℕ → Bool
 tableRight file =
-    sectionsRight file
-    && cond (hasCheckpoint file) (entryIs file 28 3 (stepsEnd file) checkpointLength) (eqb (sectionCount file) 2)
+    sectionsRight file && cond (hasCheckpoint file) (thirdIs file) (twoSections file)
 
 -- two sections, or three with the checkpoint, and no byte behind the last
 unfoldable pub contentsRight : List ℕ → Bool
@@ -149,7 +155,7 @@ contentsRight file =
     sectionsRight file
     && cond (hasCheckpoint file)
     (checkpointRight file && eqb (length file) (stepsEnd file + checkpointLength))
-    (eqb (sectionCount file) 2 && eqb (length file) (stepsEnd file))
+    (twoSections file && eqb (length file) (stepsEnd file))
 
 -- ---- the padding
 

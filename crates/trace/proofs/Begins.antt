@@ -1,14 +1,14 @@
 -- Files that begin with the same bytes: what their heads say.
 -- Assumes nothing.
-use mathlib.Core.Path.{_≡_, sym, ap, subst, _∙_}
-use mathlib.Core.Bool.{Bool, true, false, cond, _&&_}
+use mathlib.Core.Path.{_≡_, sym, ap, _∙_}
+use mathlib.Core.Bool.{Bool, true, cond, _&&_}
 use mathlib.Core.List.{List, _++_}
 use Prim.Native.Nat.{ℕ, _+_, _*_, _/_, _≤_, _<_}
 use native.Mathlib.Omega.{arith}
 use lib.Dec.{eqb, leb}
 use lib.ListN.{length, length-append, List·getD-append}
-use Rattle.number.specs.Bytes.{byteAt, number, table}
-use Rattle.number.proofs.Tests.{two, pick-true, pick-false}
+use Rattle.number.specs.Bytes.{byteAt, number}
+use Rattle.number.proofs.Tests.{two, pick-false}
 use Rattle.number.proofs.Bytes.{number-same, table-same}
 use Rattle.isa.specs.State.{registerBytes}
 use Rattle.file.specs.declared.Opened.the-variants.{Steps}

@@ -1,25 +1,24 @@
 -- A file read in pieces: its head, its steps, and the bytes behind them.
 -- Assumes nothing.
-use mathlib.Core.Path.{_≡_, refl, sym, ap, subst, _∙_}
-use mathlib.Core.Bool.{Bool, true, false, cond}
+use mathlib.Core.Path.{_≡_, refl, sym, ap, _∙_}
+use mathlib.Core.Bool.{Bool, true, false}
 use mathlib.Core.List.{List, [], _++_}
 use mathlib.Core.Logic.{⊎-elim}
 use Prim.Native.Nat.{ℕ, _+_, _-_, _*_, _≤_, _<_}
 use native.Mathlib.Omega.{arith}
-use borrow.Author.Tests.{eq-eqb, ne-eqb, eqb-true, eqb-false, le-leb, lt-leb}
+use borrow.Author.Tests.{eq-eqb, eqb-true, eqb-false, le-leb, lt-leb}
 use lib.Dec.{eqb, leb}
-use lib.ListN.{length, take, drop, length-append}
-use lib.Seq.{take-append-seam, take-append-le, take-length, take-at, drop-at, getD-append-add}
+use lib.ListN.{length, length-append}
+use lib.Seq.{take-append-seam, take-length, drop-at, getD-append-add}
 use Rattle.number.specs.Bytes.{byteAt, number}
 use Rattle.number.proofs.Tests.{pick-true, pick-false, two, is-false, true-false, lt-or-le}
 use Rattle.number.proofs.Bytes.{number-moved, table-same}
 use Rattle.isa.specs.State.{stateLength, stateOf}
 use Rattle.file.specs.declared.FileRefusal.{FileRefusal}
 use Rattle.file.specs.declared.FileRefusal.the-variants.{Contents}
-use Rattle.file.specs.declared.Opened.{Opened}
 use Rattle.file.specs.declared.Opened.the-variants.{Steps, Refused}
 use Rattle.file.specs.File.{fileRefusalNumber, bytesFrom, hasCheckpoint, checkpointLength, contentsLength, stepsBase, stepCount, stepsEnd, stepsIn}
-use Rattle.file.specs.File.{registersIn, startOf, consumedIn, savedIn, resumedFrom, sectionsRight, checkpointRight, contentsRight, tableRight}
+use Rattle.file.specs.File.{registersIn, startOf, consumedIn, resumedFrom, sectionsRight, checkpointRight, contentsRight, tableRight}
 use Rattle.file.specs.File.{paddingsClear, headAs, openedAs, closedAs}
 use Rattle.file.proofs.Contents.{length-two, length-three, consumed-some, by-consumed, by-closed, other-checkpoint, table-other, table-three}
 use Rattle.file.proofs.Contents.{contents-three, contents-end, contents-table}
@@ -28,10 +27,10 @@ use Rattle.file.proofs.Accepted.{not-both, opened-short, opened-contents, opene
 use Rattle.file.proofs.Heads.{head-short, head-contents, head-cut, head-steps, head-table, head-base, head-count}
 use Rattle.file.proofs.Heads.{close-other, close-consumed, close-padding, close-steps}
 use Rattle.text.specs.Lines.{refusedLine}
-use Rattle.trace.specs.Trace.{textRead, checkedText, streamedText, textOf}
+use Rattle.trace.specs.Trace.{textRead, streamedText, textOf}
 use Rattle.trace.specs.Reading.{againText, shown, Follows, Says, Told}
 use Rattle.trace.proofs.Stands.{Stands, stands-whole, stands-front, stands-back, stands-from}
-use Rattle.trace.proofs.Begins.{same-head, long-head, has-alike, base-alike, steps-alike, end-alike, table-alike, registers-alike, head-begins}
+use Rattle.trace.proofs.Begins.{same-head, long-head, has-alike, base-alike, steps-alike, table-alike, registers-alike, head-begins}
 use Rattle.trace.proofs.Told.{said-alone}
 
 -- ---- a refusal alone

@@ -1,20 +1,17 @@
 -- Bytes of steps in two parts: the first m steps' and the rest.
 -- Assumes nothing.
-use mathlib.Core.Path.{_≡_, refl, sym, ap, subst, _∙_}
-use mathlib.Core.Bool.{Bool, true, false}
+use mathlib.Core.Path.{_≡_, refl, sym, ap, _∙_}
+use mathlib.Core.Bool.{true}
 use mathlib.Core.List.{List, _++_}
 use mathlib.Core.Logic.{⊎-elim}
 use Prim.Native.Nat.{ℕ, zero, suc, _+_, _-_, _*_, _≤_, _<_}
 use native.Mathlib.Omega.{arith}
 use borrow.Author.Tests.{lt-ltb, le-ltb}
-use lib.Dec.{ltb}
 use lib.ListN.{length, take, drop, length-take, length-drop}
 use lib.Seq.{getD-take, getD-drop}
 use Rattle.number.specs.Bytes.{byteAt}
 use Rattle.number.proofs.Tests.{pick-true, pick-false, two, is-false, true-false, lt-or-le}
 use Rattle.number.proofs.Bytes.{table-same, table-add}
-use Rattle.isa.specs.Call.{Call}
-use Rattle.file.specs.declared.FileRefusal.{FileRefusal}
 use Rattle.file.specs.declared.FileRefusal.the-variants.{Contents, Padding}
 use Rattle.file.specs.File.{stepAt, sound, soundIn, faultAt, callAt, calls, paddingClear}
 use Rattle.file.proofs.Sound.{sound-is, sound-most, sound-before, sound-fault, sound-there, sound-whole, sound-clear, padding-moved, call-moved}

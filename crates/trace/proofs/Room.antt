@@ -1,8 +1,7 @@
 -- Texts stored in a buffer: that of a run, and that of the end.
 -- Assumes nothing.
-use mathlib.Core.Path.{_≡_, refl, sym, ap, subst, _∙_}
-use mathlib.Core.Bool.{false, cond}
-use mathlib.Core.List.{List, [], _++_}
+use mathlib.Core.Path.{_≡_, sym, ap, subst, _∙_}
+use mathlib.Core.List.{List, _++_}
 use mathlib.Core.Logic.{⊎-elim}
 use Prim.Native.Nat.{ℕ, zero, suc, _+_, _*_, _≤_, _<_}
 use native.Mathlib.Nat.{zero-add}
@@ -27,7 +26,7 @@ use Rattle.trace.specs.declared.Ran.the-variants.{On, Stopped}
 use Rattle.trace.specs.Trace.{zLines, endText}
 use Rattle.trace.specs.Runs.{runText, ranTo, ranAs}
 use Rattle.trace.proofs.Halves.{calls-front}
-use Rattle.trace.proofs.Divided.{ran-on, text-on, text-stop}
+use Rattle.trace.proofs.Divided.{text-on, text-stop}
 
 -- a refusal's line
 pub refused-stored : (out out′ : List ℕ) (at number r : ℕ) (refusal : FileRefusal) → number ≡ fileRefusalNumber refusal

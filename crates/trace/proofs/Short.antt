@@ -1,22 +1,20 @@
 -- How long lines and texts are at most.
 -- Assumes nothing.
 use mathlib.Core.Path.{_≡_}
-use mathlib.Core.Bool.{Bool, true, false}
 use mathlib.Core.List.{List, [], _++_}
 use mathlib.Core.Logic.{⊎-elim}
 use Prim.Native.Nat.{ℕ, zero, suc, _+_, _*_, _^_, _≤_, _<_}
 use native.Mathlib.Omega.{arith}
-use borrow.Author.Tests.{lt-ltb, le-ltb}
 use lib.Dec.{eqb, ltb}
 use lib.ListN.{length, length-append}
-use Rattle.number.proofs.Tests.{either, pick-true, pick-false, lt-or-le}
+use Rattle.number.proofs.Tests.{either, lt-or-le}
 use Rattle.number.proofs.Bytes.{length-table}
 use Rattle.number.specs.Bytes.{byteAt}
 use Rattle.file.specs.declared.FileRefusal.{FileRefusal}
 use Rattle.file.specs.declared.FileRefusal.the-variants.{Short, Contents, Padding}
 use Rattle.file.specs.File.{fileRefusalNumber, runSteps, runOf, soundIn, faultAt, calls}
 use Rattle.file.proofs.Sound.{sound-most}
-use Rattle.file.proofs.Records.{length-calls}
+use Rattle.file.proofs.Records.{run-few, run-most, length-calls}
 use Rattle.text.specs.Lines.{zLine, stepsLine, refusedLine}
 use Rattle.text.proofs.Lengths.{row-short, steps-short, file-short}
 use Rattle.steps.specs.Steps.{stepLines}
@@ -46,18 +44,12 @@ refused-short Padding = omega (arith, file-short 7 (omega arith))
 
 -- ---- texts
 
-run-steps : (left : ℕ) → runOf left ≤ runSteps
-run-steps left =
+-- a run has no more steps than a run may have, and than are left
+pub run-fits-in : (left : ℕ) → (runOf left ≤ runSteps) × (runOf left ≤ left)
+run-fits-in left =
     ⊎-elim
-    (λ (h : left < runSteps). omega (arith, h, pick-true left runSteps (lt-ltb left runSteps h)))
-    (λ (h : runSteps ≤ left). omega (arith, h, pick-false left runSteps (le-ltb left runSteps h)))
-    (lt-or-le left runSteps)
-
-pub run-left : (left : ℕ) → runOf left ≤ left
-run-left left =
-    ⊎-elim
-    (λ (h : left < runSteps). omega (arith, h, pick-true left runSteps (lt-ltb left runSteps h)))
-    (λ (h : runSteps ≤ left). omega (arith, h, pick-false left runSteps (le-ltb left runSteps h)))
+    (λ (h : left < runSteps). (omega (arith, h, run-few left h), omega (arith, run-few left h)))
+    (λ (h : runSteps ≤ left). (omega (arith, run-most left h), omega (arith, h, run-most left h)))
     (lt-or-le left runSteps)
 
 module _ (left i : ℕ) (registers s bytes : List ℕ) (h : i < 2 ^ 32) where
@@ -68,7 +60,7 @@ module _ (left i : ℕ) (registers s bytes : List ℕ) (h : i < 2 ^ 32) where
   run-fits =
       let lines : List ℕ = stepLines (calls bytes k) i s in
       let count = length-calls bytes k in
-      let few : k ≤ 2048 = omega (arith, sound-most bytes (runOf left), run-steps left) in
+      let few : k ≤ 2048 = omega (arith, sound-most bytes (runOf left), run-fits-in left .0) in
       either (λ (xs : List ℕ). length (lines ++ xs) ≤ roomLength) (ltb k (runOf left))
       (omega (
         arith,

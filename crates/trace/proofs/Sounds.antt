@@ -6,14 +6,14 @@ use mathlib.Core.List.{List, _++_, append-assoc}
 use Prim.Native.Nat.{ℕ, _+_, _-_, _*_, _≤_, _<_}
 use native.Mathlib.Omega.{arith}
 use borrow.Author.Tests.{eq-eqb, le-ltb}
-use lib.ListN.{length, take, drop, length-drop}
+use lib.ListN.{length, drop, length-drop}
 use lib.Seq.{take-all}
 use Rattle.number.specs.Bytes.{byteAt}
 use Rattle.number.proofs.Tests.{pick-true, pick-false, two}
 use Rattle.isa.specs.Step.{run}
 use Rattle.file.specs.declared.Opened.the-variants.{Steps}
 use Rattle.file.specs.File.{bytesFrom, hasCheckpoint, stepsBase, stepAt, stepCount, registersIn, startOf, stepsIn, consumedIn, resumedFrom}
-use Rattle.file.specs.File.{soundIn, calls, paddingClear, paddingsClear, headAs, openedAs}
+use Rattle.file.specs.File.{soundIn, calls, paddingClear, paddingsClear, openedAs}
 use Rattle.file.proofs.Sound.{sound-is, sound-there, padding-moved}
 use Rattle.file.proofs.Paddings.{all-at, all-true}
 use Rattle.file.proofs.Parts.{length-from, byte-from, part-between}
@@ -24,7 +24,7 @@ use Rattle.file.proofs.Accepted.{accepted-contents, accepted-count, accepted-co
 use Rattle.file.proofs.Heads.{opened-head}
 use Rattle.text.specs.Lines.{stepsLine}
 use Rattle.steps.specs.Steps.{stepLines}
-use Rattle.trace.specs.Trace.{zLines, endText, textRead, callsIn, remaining, ended, acceptedText, checkedText, streamedText, textOf, Unchanged}
+use Rattle.trace.specs.Trace.{zLines, textRead, remaining, acceptedText, checkedText, streamedText, textOf, Unchanged}
 use Rattle.trace.specs.Reading.{againText, shown, leftIn, ReadTwice}
 use Rattle.trace.proofs.Divided.{behind, by-sound}
 

@@ -1,5 +1,4 @@
 use lib.ListN.{length, take}
-use native.Mathlib.Omega.{arith}
 use Rattle.io.proofs.Counting.{counts}
 use Rattle.file.proofs.Heads.{head-base, head-most}
 use Rattle.disk.proofs.Reading.{within}

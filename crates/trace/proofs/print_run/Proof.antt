@@ -1,6 +1,6 @@
 use native.Mathlib.Omega.{arith}
 use Rattle.file.proofs.Sound.{sound-most}
-use Rattle.trace.proofs.Room.{sound-room, lent-length, lent-calls, runs-on, runs-stop, refused-stored}
+use Rattle.trace.proofs.Room.{lent-length, lent-calls, runs-on, runs-stop, refused-stored}
 use borrow.Author.Needs.{needs}
 use Rattle.trace.proofs.print_run.Statement.{statement}
 use Rattle.trace.proofs.print_run.Tie as tie
