@@ -11,8 +11,8 @@ use lib.ListN.{length}
 use Rattle.number.specs.Bytes.{byteAt, number}
 use Rattle.number.proofs.Tests.{and-left, and-right, pick-true, pick-false, either, two}
 use Rattle.isa.specs.State.{registerBytes}
-use Rattle.file.specs.File.{sectionCount, hasCheckpoint, checkpointLength, contentsLength, stepsBase, stepBytes, mostSteps, stepCount}
-use Rattle.file.specs.File.{stepsEnd, consumedIn, entryIs, sectionsRight, checkpointRight, tableRight, contentsRight}
+use Rattle.file.specs.File.{hasCheckpoint, checkpointLength, contentsLength, stepsBase, stepBytes, mostSteps, stepCount}
+use Rattle.file.specs.File.{stepsEnd, consumedIn, entryIs, thirdIs, twoSections, sectionsRight, checkpointRight, tableRight, contentsRight}
 
 -- n is the number m that a file holds: whether m is k, by n
 pub same : {n m : ℕ} (k : ℕ) → n ≡ m → n ≡ k → eqb m k ≡ true
@@ -90,7 +90,7 @@ module _ (file : List ℕ) where
   few = leb (stepCount file) mostSteps
 
   abbrev third : Bool
-  third = entryIs file 28 3 (stepsEnd file) checkpointLength
+  third = thirdIs file
 
   abbrev within : Bool
   within = leb (consumedIn file) (stepCount file)
@@ -99,7 +99,7 @@ module _ (file : List ℕ) where
   closed = eqb (length file) (stepsEnd file + checkpointLength)
 
   abbrev counted : Bool
-  counted = eqb (sectionCount file) 2
+  counted = twoSections file
 
   abbrev ended : Bool
   ended = eqb (length file) (stepsEnd file)
