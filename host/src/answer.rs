@@ -87,14 +87,14 @@ impl Answer {
         use {Reason::*, Refusal::*};
         match number {
             0..=MOST => Some(Answer::Done { bytes: number }),
-            ..NO_OP => None,
             NO_OP..REFUSED => {
                 [ReservedBits, ReservedMode, LaterMode].into_iter().find(|&reason| reason as u64 == number - NO_OP).map(Answer::NoOp)
             }
-            _ => [StateLength, Generation, Instruction, NotCovered, Serial, LastCount]
+            REFUSED.. => [StateLength, Generation, Instruction, NotCovered, Serial, LastCount]
                 .into_iter()
                 .find(|&refusal| refusal as u64 == number - REFUSED)
                 .map(Answer::Refused),
+            _ => None,
         }
     }
 

@@ -1,4 +1,4 @@
-use crate::{Answer, Fms64, Mac16, State, Vecfp, Vecint};
+use crate::{Answer, Fms64, Mac16, State, Vecfp, Vecint, unit};
 
 /// A call of the step. Any numbers may stand here: the step answers for all of them.
 #[derive(Clone, Copy, Debug, PartialEq, Eq, Hash)]
@@ -197,31 +197,7 @@ pub(crate) fn step_due(state: &mut State, call: Call) -> Answer {
 
 fn answered(number: u64) -> Answer {
     // the library's contract has no other numbers
-    Answer::from_number(number).unwrap_or_else(|| panic!("libamx.a answered {number}, which amx.h does not have"))
-}
-
-/// The C interface of libamx.a, include/amx.h.
-#[allow(unsafe_code)]
-mod unit {
-    unsafe extern "C" {
-        fn amx_step(state: *mut u8, length: u64, instruction: u64, generation: u64, operand: u64, serial: u64) -> u64;
-        fn amx_checkpoint(state: *const u8, length: u64, consumed: u64, out: *mut u8, out_length: u64) -> u64;
-        #[link_name = "amx_normal_answer"]
-        pub safe fn normal_answer(instruction: u64, generation: u64, operand: u64) -> u64;
-        #[link_name = "amx_normal_operand"]
-        pub safe fn normal_operand(instruction: u64, generation: u64, operand: u64) -> u64;
-    }
-
-    pub fn step(state: &mut [u8], instruction: u64, generation: u64, operand: u64, serial: u64) -> u64 {
-        // SAFETY: pointer and length are of one slice, lent to this call alone; amx_step keeps neither and takes every number
-        unsafe { amx_step(state.as_mut_ptr(), state.len() as u64, instruction, generation, operand, serial) }
-    }
-
-    pub fn checkpoint(state: &[u8], consumed: u64, out: &mut [u8]) -> u64 {
-        // SAFETY: each pointer and its length are of one slice, `out` lent to this call alone; amx_checkpoint keeps neither, writes to
-        // `out` alone and takes every number
-        unsafe { amx_checkpoint(state.as_ptr(), state.len() as u64, consumed, out.as_mut_ptr(), out.len() as u64) }
-    }
+    Answer::from_number(number).unwrap_or_else(|| panic!("the unit answered {number}, which amx.h does not have"))
 }
 
 #[cfg(test)]

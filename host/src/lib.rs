@@ -8,7 +8,7 @@
 //! - [`Trace`] holds a trace file, a whole one or one that goes on from a [`Checkpoint`]; [`TraceReader`], [`TraceWriter`] and [`write_run`]
 //!   read, write and run one step by step, of up to 1,000,000; [`text`] does so with their texts.
 //! - [`mod@reference`] is a second program for the same pages, whose floats are whole numbers ([`rounding`]). Nothing here relies on it but
-//!   [`lane_grid`]; the `compare` program runs both.
+//!   [`lane_grid`], and builds without the proved unit; the `compare` program runs both.
 //!
 //! ```
 //! use amx::{Answer, Call, Generation, Register, State, Vecint, Vectors, Width, step};
@@ -23,6 +23,13 @@
 //! assert_eq!(state.signed_lane(Register::Z(0), 0, Width::Bits16), -255);
 //! # Ok::<(), amx::FieldError>(())
 //! ```
+//!
+//! # With the proved unit, and without
+//!
+//! The feature `proved`, which is on by default, links libamx.a: where these pages say "the proved unit", that is what takes the step.
+//! Without it (`--no-default-features`) the crate needs nothing but Rust, on any machine, and the second program takes every step: it is
+//! held to the proved unit by comparison, but it is not proved, and it is slower. [`PROVED`] tells which of the two a build has, and
+//! [`UNIT_NOTE`] is what its outputs then have to say.
 //!
 //! # Floats
 //!
@@ -47,8 +54,6 @@
 //! assert_eq!(state.f32_lane(Register::Z(0), 1).to_bits(), 0x7fc0_0000);
 //! # Ok::<(), amx::FieldError>(())
 //! ```
-#![deny(unsafe_code)] // but for the four calls of libamx.a
-#![warn(missing_docs)]
 
 mod answer;
 mod call;
@@ -61,6 +66,7 @@ mod state;
 mod stream;
 pub mod text;
 mod trace;
+mod unit;
 
 pub use answer::{Answer, Reason, Refusal};
 pub use call::{Call, Generation, Instruction, checkpoint_bytes, normal, run, step, step_bytes};
@@ -69,3 +75,4 @@ pub use operand::{Field, FieldError, Float, Fms64, IndexBits, Mac16, Side, Vecfp
 pub use state::{REGISTER_BYTES, Register, STATE_LENGTH, State, Width};
 pub use stream::{ReadError, TraceReader, TraceWriter, WriteError, print_trace, write_run};
 pub use trace::{CHECKPOINT_LENGTH, Checkpoint, FileRefusal, NoCheckpoint, NoRecord, Record, Trace, TraceFull, TraceHeader};
+pub use unit::{PROVED, UNIT_NOTE};

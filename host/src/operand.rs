@@ -440,7 +440,7 @@ impl Fms64 {
 macro_rules! flags {
     ($builder:ident: $($bit:literal $name:ident $meaning:literal)*) => {
         impl $builder {
-            $(#[doc = $meaning] pub fn $name(self, on: bool) -> Self { $builder(self.0 & !(1 << $bit) | u64::from(on) << $bit) })*
+            $(#[doc = $meaning] #[must_use] pub fn $name(self, on: bool) -> Self { $builder(self.0 & !(1 << $bit) | u64::from(on) << $bit) })*
         }
     };
 }

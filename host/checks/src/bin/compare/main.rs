@@ -35,7 +35,7 @@ struct Options {
 }
 
 fn options() -> Result<Option<Options>, String> {
-    let trace = PathBuf::from(env!("CARGO_MANIFEST_DIR")).with_file_name("target").join("bin/amx_trace");
+    let trace = PathBuf::from(env!("CARGO_MANIFEST_DIR")).join("../../target/bin/amx_trace");
     let mut options = Options { seed: 1, steps: 400_000, trace, need_trace: false };
     let mut arguments = std::env::args().skip(1);
     while let Some(argument) = arguments.next() {
