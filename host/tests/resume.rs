@@ -73,6 +73,7 @@ fn both_parts_are_the_whole_wherever_a_trace_is_cut() {
 }
 
 #[test]
+#[cfg_attr(not(feature = "proved"), ignore = "thousands of runs, which the second program is slow to take")]
 fn stored_traces_are_cut_everywhere() {
     let mut cut = 0;
     for (name, file, _) in stored() {
