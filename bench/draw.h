@@ -7,7 +7,6 @@ struct call { uint64_t length, instruction, generation, operand; };
 
 // room for a state and more, in whole cache lines: the rows of all versions lie alike in theirs
 enum { LENGTH = AMX_STATE_LENGTH, ROOM = (LENGTH + 63) / 64 * 64 };
-enum { FMS64 = 11, MAC16 = 14, VECINT = 18, VECFP = 19, NO_OP = 65536, REFUSED = 131072 };
 
 static uint64_t seed = 1;
 static uint64_t next(void) {
@@ -57,18 +56,18 @@ static uint64_t fms64_operand(void) {
 
 // a step of vecfp or fms64, mostly with offsets of whole lanes
 static struct call draw_float(void) {
-    struct call c = {LENGTH, below(3) ? VECFP : FMS64, below(3) ? 2 : 1, next()};
-    if (below(16)) c.operand = c.instruction == VECFP ? vecfp_operand() : fms64_operand();
+    struct call c = {LENGTH, below(3) ? AMX_VECFP : AMX_FMS64, below(3) ? AMX_M2 : AMX_M1, next()};
+    if (below(16)) c.operand = c.instruction == AMX_VECFP ? vecfp_operand() : fms64_operand();
     if (below(4)) c.operand &= ~(7ull << 10 | 7);
     return c;
 }
 
 // a step, `floats` of four one of vecfp or fms64
 static struct call draw(unsigned loads, unsigned floats) {
-    static const uint64_t instruction[] = {0, 10, 12, 13, 15, 17, 20, (1ull << 32) + MAC16, (1ull << 8) + VECINT, (1ull << 32) + FMS64, (1ull << 8) + VECFP};
+    static const uint64_t instruction[] = {0, 10, 12, 13, 15, 17, 20, (1ull << 32) + AMX_MAC16, (1ull << 8) + AMX_VECINT, (1ull << 32) + AMX_FMS64, (1ull << 8) + AMX_VECFP};
     static const uint64_t generation[] = {0, 3, 4, (1ull << 32) + 1, (1ull << 8) + 2}, length[] = {LENGTH - 1, LENGTH + 1, AMX_COUNT_AT};
-    struct call c = {LENGTH, below(3) ? VECINT : MAC16, 1 + below(2), next()};
-    if (c.instruction == VECINT && below(16)) c.operand = vecint_operand(loads);
+    struct call c = {LENGTH, below(3) ? AMX_VECINT : AMX_MAC16, AMX_M1 + below(2), next()};
+    if (c.instruction == AMX_VECINT && below(16)) c.operand = vecint_operand(loads);
     if (below(4) < floats) c = draw_float();
     if (below(64) == 0) c.instruction = below(8) ? instruction[below(11)] : next();
     if (below(64) == 0) c.generation = below(8) ? generation[below(5)] : next();

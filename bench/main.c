@@ -63,9 +63,9 @@ static void set_count(uint64_t count) {
     for (int v = 0; v < VERSIONS; v++) memcpy(state[v] + AMX_COUNT_AT, &count, sizeof count);
 }
 
-static int is_float(struct call c) { return c.instruction == VECFP || c.instruction == FMS64; }
+static int is_float(struct call c) { return c.instruction == AMX_VECFP || c.instruction == AMX_FMS64; }
 
-static int indexed(struct call c) { return c.instruction == VECINT && c.operand >> 53 & 1; }
+static int indexed(struct call c) { return c.instruction == AMX_VECINT && c.operand >> 53 & 1; }
 
 static uint64_t count_of(int v) {
     uint64_t count;
@@ -112,13 +112,13 @@ static void compare(void) {
         for (int v = 1; v < VERSIONS; v++)
             if (run(v, v + 1 < VERSIONS ? c : normal, serial) != answer || memcmp(state[v], state[0], ROOM)) differ("the versions differ", n, c, count, serial);
         uint64_t asked = amx_normal_answer(c.instruction, c.generation, c.operand);
-        int of_call = c.length == LENGTH && answer != REFUSED + 8 && answer != REFUSED + 9;
-        if (of_call && asked != (answer < NO_OP ? 0 : answer)) differ("the normal operand is answered otherwise", n, c, count, serial);
+        int of_call = c.length == LENGTH && answer != AMX_REFUSED_SERIAL && answer != AMX_REFUSED_LAST_COUNT;
+        if (of_call && asked != (AMX_IS_DONE(answer) ? 0 : answer)) differ("the normal operand is answered otherwise", n, c, count, serial);
         if (normal.operand != amx_normal_operand(c.instruction, c.generation, normal.operand)) differ("the normal operand is not normal", n, c, count, serial);
-        floats += answer < NO_OP && is_float(c);
-        if (answer < NO_OP) done++;
-        else if (answer < REFUSED) no_op[answer - NO_OP]++;
-        else refused[answer - REFUSED]++;
+        floats += AMX_IS_DONE(answer) && is_float(c);
+        if (AMX_IS_DONE(answer)) done++;
+        else if (AMX_IS_NO_OP(answer)) no_op[answer - AMX_NO_OP]++;
+        else refused[answer - AMX_REFUSED]++;
     }
     printf("%d random steps: same bytes, same answers\ndone %d, of these %d of vecfp and fms64", RANDOM_STEPS, done, floats);
     for (int i = 1; i < 4; i++) printf(", no-op %d: %d", i, no_op[i]);
@@ -169,7 +169,7 @@ static void mixed(const char *form, unsigned loads, int floats) {
     static struct call list[MIXED];
     for (int n = 0; n < MIXED;) {
         list[n] = draw(loads, floats ? 2 : 0);
-        if (indexed(list[n]) == (loads > 0) && run(1, list[n], count_of(1)) < NO_OP && (floats || !is_float(list[n]))) n++;
+        if (indexed(list[n]) == (loads > 0) && AMX_IS_DONE(run(1, list[n], count_of(1))) && (floats || !is_float(list[n]))) n++;
     }
     if (floats) fill_normal();
     else fill(0);
@@ -187,37 +187,37 @@ static void vecfp(const char *lanes, uint64_t width) {
     for (int i = 0; i < 4; i++) {
         char form[32];
         snprintf(form, sizeof form, "vecfp, %s, mode %d", lanes, (int)mode[i]);
-        one_float(form, VECFP, mode[i] << 47 | width << 42, 6000);
+        one_float(form, AMX_VECFP, mode[i] << 47 | width << 42, 6000);
     }
 }
 
 int main(void) {
     compare();
     fill(0);
-    one("mac16, matrix 16", MAC16, 0, 600);
-    one("mac16, matrix 32", MAC16, 1ull << 62, 300);
-    one("mac16, vector", MAC16, 1ull << 63, 6000);
-    one("vecint, 16 16 16", VECINT, vec(0, 0), 6000);
-    one("vecint, 16 16 32", VECINT, vec(0, 3), 6000);
-    one("vecint, 8 8 32", VECINT, vec(0, 10), 3000);
-    one("vecint, 8 8 16", VECINT, vec(0, 11), 3000);
-    one("vecint, 8 16 32", VECINT, vec(0, 12), 3000);
-    one("vecint, 16 16 16, first 5", VECINT, vec(0, 0) | 2ull << 38 | 5ull << 32, 6000);
-    one("vecint, 8 8 32, first 5", VECINT, vec(0, 10) | 2ull << 38 | 5ull << 32, 3000);
-    one("vecint, 8 16 32, odd lanes", VECINT, vec(0, 12) | 1ull << 32, 3000);
-    one("vecint, 16 16 16, four vectors", VECINT, vec(0, 0) | 1ull << 31 | 1ull << 25, 2000);
-    one("vecint, reducing 32 to 16", VECINT, vec(4, 3) | 7ull << 58 | 3ull << 29, 6000);
-    one("vecint, reducing 32 to 32", VECINT, vec(4, 4) | 7ull << 58 | 3ull << 29, 6000);
-    one("vecint, reducing 8 to 8", VECINT, vec(4, 9) | 7ull << 58 | 3ull << 29, 6000);
-    one("vecint, reducing 16 to 16", VECINT, vec(4, 0) | 7ull << 58 | 3ull << 29, 6000);
-    one("vecint, mode 5", VECINT, vec(5, 0), 6000);
+    one("mac16, matrix 16", AMX_MAC16, 0, 600);
+    one("mac16, matrix 32", AMX_MAC16, 1ull << 62, 300);
+    one("mac16, vector", AMX_MAC16, 1ull << 63, 6000);
+    one("vecint, 16 16 16", AMX_VECINT, vec(0, 0), 6000);
+    one("vecint, 16 16 32", AMX_VECINT, vec(0, 3), 6000);
+    one("vecint, 8 8 32", AMX_VECINT, vec(0, 10), 3000);
+    one("vecint, 8 8 16", AMX_VECINT, vec(0, 11), 3000);
+    one("vecint, 8 16 32", AMX_VECINT, vec(0, 12), 3000);
+    one("vecint, 16 16 16, first 5", AMX_VECINT, vec(0, 0) | 2ull << 38 | 5ull << 32, 6000);
+    one("vecint, 8 8 32, first 5", AMX_VECINT, vec(0, 10) | 2ull << 38 | 5ull << 32, 3000);
+    one("vecint, 8 16 32, odd lanes", AMX_VECINT, vec(0, 12) | 1ull << 32, 3000);
+    one("vecint, 16 16 16, four vectors", AMX_VECINT, vec(0, 0) | 1ull << 31 | 1ull << 25, 2000);
+    one("vecint, reducing 32 to 16", AMX_VECINT, vec(4, 3) | 7ull << 58 | 3ull << 29, 6000);
+    one("vecint, reducing 32 to 32", AMX_VECINT, vec(4, 4) | 7ull << 58 | 3ull << 29, 6000);
+    one("vecint, reducing 8 to 8", AMX_VECINT, vec(4, 9) | 7ull << 58 | 3ull << 29, 6000);
+    one("vecint, reducing 16 to 16", AMX_VECINT, vec(4, 0) | 7ull << 58 | 3ull << 29, 6000);
+    one("vecint, mode 5", AMX_VECINT, vec(5, 0), 6000);
     mixed("both, 4,000 mixed steps", 0, 0);
-    one("vecint, 16 16 16, indexed X", VECINT, vec_indexed(0, 0), 6000);
-    one("vecint, 8 8 32, indexed Y", VECINT, vec_indexed(1, 10), 3000);
+    one("vecint, 16 16 16, indexed X", AMX_VECINT, vec_indexed(0, 0), 6000);
+    one("vecint, 8 8 32, indexed Y", AMX_VECINT, vec_indexed(1, 10), 3000);
     mixed("vecint, 4,000 indexed steps", 4, 0);
     vecfp("single", 4);
     vecfp("double", 7);
-    one_float("fms64, vector, z - x", FMS64, 1ull << 63 | 1ull << 28, 6000);
-    one_float("fms64, matrix, z - x", FMS64, 1ull << 28, 1500);
+    one_float("fms64, vector, z - x", AMX_FMS64, 1ull << 63 | 1ull << 28, 6000);
+    one_float("fms64, matrix, z - x", AMX_FMS64, 1ull << 28, 1500);
     mixed("all four, 4,000 mixed steps", 0, 1);
 }

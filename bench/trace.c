@@ -114,7 +114,7 @@ static double run_alone(int n) {
     set_start();
     uint64_t serial = 0;
     double start = seconds();
-    for (int i = 0; i < n; i++) serial += step(list[i], serial) < REFUSED;
+    for (int i = 0; i < n; i++) serial += !AMX_IS_REFUSED(step(list[i], serial));
     return seconds() - start;
 }
 
@@ -137,10 +137,10 @@ static size_t expect(int n) {
     set_start();
     for (int i = 0, serial = 0; i < n; i++) {
         uint64_t answer = step(list[i], serial);
-        serial += answer < REFUSED;
-        done += answer < NO_OP, no_op += answer >= NO_OP && answer < REFUSED;
-        const char *word = answer < NO_OP ? "done" : answer < REFUSED ? "no-op" : "refused";
-        at += sprintf(at, "step %d %s %d\n", i, word, (int)(answer % NO_OP));
+        serial += !AMX_IS_REFUSED(answer);
+        done += AMX_IS_DONE(answer), no_op += AMX_IS_NO_OP(answer);
+        const char *word = AMX_IS_DONE(answer) ? "done" : AMX_IS_NO_OP(answer) ? "no-op" : "refused";
+        at += sprintf(at, "step %d %s %d\n", i, word, (int)(answer % AMX_NO_OP));
     }
     at = put_rows(at);
     at += sprintf(at, "steps %d\n", n);

@@ -3,6 +3,7 @@
 #include <stdbool.h>
 #include <stdint.h>
 #include <string.h>
+#include "../include/amx.h"
 
 static unsigned field(uint64_t op, int first, int last) { return op >> first & ((2ull << (last - first)) - 1); }
 
@@ -102,7 +103,7 @@ static uint64_t mac16(uint8_t *state, uint64_t op) {
     return 2 * nx * ny;
 }
 
-enum { NO_OP = 65536, REFUSED = 131072, ROUND = 1 << 14, LENGTH = 5128, COUNT = 5120 };
+enum { ROUND = 1 << 14 };
 
 // what an operand of vecint or vecfp says; widths in bytes. Shifts, saturation, signs and indices are vecint's.
 struct vec {
@@ -331,12 +332,12 @@ REDUCE(16, int32_t)
 REDUCE(32, int64_t)
 
 static uint64_t vecint(uint8_t *state, unsigned generation, uint64_t op) {
-    if (field(op, 54, 56)) return NO_OP + 1;
+    if (field(op, 54, 56)) return AMX_NO_OP_RESERVED_BITS;
     unsigned mode = bit(op, 53) ? 0 : field(op, 47, 52);
-    if ((mode >= 7 && mode <= 9) || mode > 12) return NO_OP + 2;
-    if (mode >= 10 && generation == 1) return NO_OP + 3;
-    if (mode != 4 && field(op, 27, 30)) return REFUSED + 4;
-    bool several = generation == 2 && bit(op, 31);
+    if ((mode >= 7 && mode <= 9) || mode > 12) return AMX_NO_OP_RESERVED_MODE;
+    if (mode >= 10 && generation == AMX_M1) return AMX_NO_OP_LATER_MODE;
+    if (mode != 4 && field(op, 27, 30)) return AMX_REFUSED_NOT_COVERED;
+    bool several = generation == AMX_M2 && bit(op, 31);
     struct vec v = decode(op, mode, several);
     int32_t x[64], y[64], term[64], mask[64];
     unsigned enable = several ? 1 : field(op, 38, 40), value = field(op, 32, 37);
@@ -440,13 +441,13 @@ VECFP(32, float)
 VECFP(64, double)
 
 static uint64_t vecfp(uint8_t *state, unsigned generation, uint64_t op) {
-    if (field(op, 54, 56)) return NO_OP + 1;
+    if (field(op, 54, 56)) return AMX_NO_OP_RESERVED_BITS;
     unsigned mode = bit(op, 53) ? 0 : field(op, 47, 52), number = field(op, 42, 45);
     bool known = mode < 2 || mode == 4 || mode == 5 || mode == 7 || (mode >= 10 && mode <= 12);
-    if (!known) return NO_OP + 2;
-    if (mode >= 10 && generation == 1) return NO_OP + 3;
-    if ((mode != 4 && mode < 10) || (number != 4 && number != 7) || field(op, 27, 30)) return REFUSED + 4;
-    bool several = generation == 2 && bit(op, 31);
+    if (!known) return AMX_NO_OP_RESERVED_MODE;
+    if (mode >= 10 && generation == AMX_M1) return AMX_NO_OP_LATER_MODE;
+    if ((mode != 4 && mode < 10) || (number != 4 && number != 7) || field(op, 27, 30)) return AMX_REFUSED_NOT_COVERED;
+    bool several = generation == AMX_M2 && bit(op, 31);
     struct vec v = {.mode = mode, .y = number == 4 ? 4 : 8, .rows = 1, .xstep = 64, .ystep = 64};
     return (number == 4 ? vectors32 : vectors64)(state, op, &v, several);
 }
@@ -476,7 +477,7 @@ static void row64(uint8_t *restrict z, const uint64_t *restrict side, const uint
 
 static uint64_t fms64(uint8_t *state, uint64_t op) {
     bool skipx = bit(op, 29), skipy = bit(op, 28), keep = !bit(op, 27), none = skipx && skipy;
-    if (!skipx && !skipy) return REFUSED + 4;
+    if (!skipx && !skipy) return AMX_REFUSED_NOT_COVERED;
     unsigned xon = lane_set(field(op, 46, 47), field(op, 41, 45)), yon = bit(op, 63) ? 1 : lane_set(field(op, 37, 38), field(op, 32, 36));
     uint64_t bytes = 8 * __builtin_popcount(xon) * __builtin_popcount(yon);
     if (none && keep) return bytes; // z stays
@@ -498,18 +499,18 @@ static uint64_t fms64(uint8_t *state, uint64_t op) {
 }
 
 uint64_t NAME(uint8_t *state, uint64_t length, uint64_t instruction, uint64_t generation, uint64_t operand, uint64_t serial) {
-    if (length != LENGTH) return REFUSED + 1;
-    if (generation != 1 && generation != 2) return REFUSED + 2;
-    if (instruction != 11 && instruction != 14 && instruction != 18 && instruction != 19) return REFUSED + 3;
+    if (length != AMX_STATE_LENGTH) return AMX_REFUSED_STATE_LENGTH;
+    if (generation != AMX_M1 && generation != AMX_M2) return AMX_REFUSED_GENERATION;
+    if (instruction != AMX_FMS64 && instruction != AMX_MAC16 && instruction != AMX_VECINT && instruction != AMX_VECFP) return AMX_REFUSED_INSTRUCTION;
     uint64_t count;
-    memcpy(&count, state + COUNT, sizeof count);
-    if (count == UINT64_MAX) return REFUSED + 9;
-    if (serial != count) return REFUSED + 8;
-    uint64_t answer = instruction == 14 ? mac16(state, operand) : instruction == 18 ? vecint(state, generation, operand)
-                    : instruction == 19 ? vecfp(state, generation, operand) : fms64(state, operand);
-    if (answer < REFUSED) {
+    memcpy(&count, state + AMX_COUNT_AT, sizeof count);
+    if (count == UINT64_MAX) return AMX_REFUSED_LAST_COUNT;
+    if (serial != count) return AMX_REFUSED_SERIAL;
+    uint64_t answer = instruction == AMX_MAC16 ? mac16(state, operand) : instruction == AMX_VECINT ? vecint(state, generation, operand)
+                    : instruction == AMX_VECFP ? vecfp(state, generation, operand) : fms64(state, operand);
+    if (!AMX_IS_REFUSED(answer)) {
         count++;
-        memcpy(state + COUNT, &count, sizeof count);
+        memcpy(state + AMX_COUNT_AT, &count, sizeof count);
     }
     return answer;
 }
