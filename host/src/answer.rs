@@ -8,6 +8,9 @@ const MOST: u64 = 4_096;
 
 /// What a step answers. A step that is done or a no-op raises the state's count by one; a no-op changes nothing else, and a refusal no byte.
 ///
+/// An answer is to be looked at: one that is dropped hides a step that did nothing. Where only a done step will do, [`done`](Self::done)
+/// makes an error of all others.
+///
 /// `{}` writes the words of a step line, `{:#}` what the number is as well.
 ///
 /// ```
@@ -18,6 +21,14 @@ const MOST: u64 = 4_096;
 /// let answer = Answer::Done { bytes: 64 };
 /// assert_eq!((answer.to_string(), format!("{answer:#}")), ("done 64".to_owned(), "done 64 bytes".to_owned()));
 /// ```
+///
+/// The compiler warns of an answer that is dropped, or stops there where it is told to:
+///
+/// ```compile_fail
+/// #![deny(unused_must_use)]
+/// amx::step(&mut amx::State::new(), amx::Call::new(14, 1, 1 << 63), 0);
+/// ```
+#[must_use = "an answer that is dropped hides a refusal or a no-op"]
 #[derive(Clone, Copy, Debug, PartialEq, Eq, Hash)]
 pub enum Answer {
     /// The step was done.
@@ -25,6 +36,23 @@ pub enum Answer {
         /// The bytes of Z in lanes that it enabled, 0 to 4,096. Those of several steps may be summed, whatever their lane widths.
         bytes: u64,
     },
+    /// The chip would do nothing either.
+    NoOp(Reason),
+    /// The unit does not cover the call, or the serial is not the one due.
+    Refused(Refusal),
+}
+
+/// Why a step is not done: an [`Answer`] other than [`Answer::Done`], as an error. `{}` and `{:#}` write what the answer's do.
+///
+/// ```
+/// use amx::{Answer, NotDone, Refusal};
+/// let error = NotDone::Refused(Refusal::Serial);
+/// assert_eq!(error.to_string(), "refused 8");
+/// assert_eq!(format!("{error:#}"), "refused 8: the serial is not the count of steps taken");
+/// assert_eq!(Answer::from(error), Answer::Refused(Refusal::Serial));
+/// ```
+#[derive(Clone, Copy, Debug, PartialEq, Eq, Hash)]
+pub enum NotDone {
     /// The chip would do nothing either.
     NoOp(Reason),
     /// The unit does not cover the call, or the serial is not the one due.
@@ -102,20 +130,58 @@ impl Answer {
     pub fn is_done(self) -> bool {
         matches!(self, Answer::Done { .. })
     }
+
+    /// The bytes that a done step reports; any other answer is an error.
+    ///
+    /// ```
+    /// use amx::{Call, NotDone, Reason, State, step};
+    /// fn bytes(call: Call) -> Result<u64, NotDone> {
+    ///     let bytes = step(&mut State::new(), call, 0).done()?;
+    ///     Ok(bytes)
+    /// }
+    /// assert_eq!(bytes(Call::new(14, 1, 1 << 63)), Ok(64));
+    /// assert_eq!(bytes(Call::new(18, 1, 1 << 54)), Err(NotDone::NoOp(Reason::ReservedBits)));
+    /// ```
+    pub fn done(self) -> Result<u64, NotDone> {
+        match self {
+            Answer::Done { bytes } => Ok(bytes),
+            Answer::NoOp(reason) => Err(NotDone::NoOp(reason)),
+            Answer::Refused(refusal) => Err(NotDone::Refused(refusal)),
+        }
+    }
+}
+
+impl From<NotDone> for Answer {
+    fn from(error: NotDone) -> Self {
+        match error {
+            NotDone::NoOp(reason) => Answer::NoOp(reason),
+            NotDone::Refused(refusal) => Answer::Refused(refusal),
+        }
+    }
 }
 
 impl fmt::Display for Answer {
     fn fmt(&self, f: &mut fmt::Formatter) -> fmt::Result {
-        match self {
-            Answer::Done { bytes } if f.alternate() => write!(f, "done {bytes} bytes"),
-            Answer::Done { bytes } => write!(f, "done {bytes}"),
-            Answer::NoOp(reason) if f.alternate() => write!(f, "no-op {}: {reason}", *reason as u8),
-            Answer::NoOp(reason) => write!(f, "no-op {}", *reason as u8),
-            Answer::Refused(refusal) if f.alternate() => write!(f, "refused {}: {refusal}", *refusal as u8),
-            Answer::Refused(refusal) => write!(f, "refused {}", *refusal as u8),
+        match self.done() {
+            Ok(bytes) if f.alternate() => write!(f, "done {bytes} bytes"),
+            Ok(bytes) => write!(f, "done {bytes}"),
+            Err(not_done) => not_done.fmt(f),
         }
     }
 }
+
+impl fmt::Display for NotDone {
+    fn fmt(&self, f: &mut fmt::Formatter) -> fmt::Result {
+        match self {
+            NotDone::NoOp(reason) if f.alternate() => write!(f, "no-op {}: {reason}", *reason as u8),
+            NotDone::NoOp(reason) => write!(f, "no-op {}", *reason as u8),
+            NotDone::Refused(refusal) if f.alternate() => write!(f, "refused {}: {refusal}", *refusal as u8),
+            NotDone::Refused(refusal) => write!(f, "refused {}", *refusal as u8),
+        }
+    }
+}
+
+impl std::error::Error for NotDone {}
 
 impl fmt::Display for Reason {
     fn fmt(&self, f: &mut fmt::Formatter) -> fmt::Result {
@@ -142,5 +208,36 @@ impl fmt::Display for Refusal {
             Refusal::Serial => "the serial is not the count of steps taken",
             Refusal::LastCount => "the count of steps taken is at its last, 2^64 - 1",
         })
+    }
+}
+
+#[cfg(test)]
+mod tests {
+    use super::*;
+
+    /// Every answer that there is, by number; of done ones the ends.
+    fn answers() -> impl Iterator<Item = Answer> {
+        [0, MOST].into_iter().chain(NO_OP..NO_OP + 16).chain(REFUSED..REFUSED + 16).filter_map(Answer::from_number)
+    }
+
+    #[test]
+    fn an_answer_is_done_or_an_error_that_leads_back_to_it() {
+        assert_eq!(answers().count(), 2 + 3 + 6);
+        for answer in answers() {
+            match answer.done() {
+                Ok(bytes) => assert_eq!(answer, Answer::Done { bytes }),
+                Err(error) => {
+                    assert_eq!(Answer::from(error), answer);
+                    assert_eq!((error.to_string(), format!("{error:#}")), (answer.to_string(), format!("{answer:#}")));
+                }
+            }
+            assert_eq!(answer.done().is_ok(), answer.is_done());
+        }
+    }
+
+    #[test]
+    fn an_error_tells_its_number_and_reason_as_any_error_does() {
+        let error: Box<dyn std::error::Error> = NotDone::NoOp(Reason::ReservedBits).into();
+        assert_eq!((error.to_string(), format!("{error:#}")), ("no-op 1".to_owned(), "no-op 1: bits 54..56 are not all 0".to_owned()));
     }
 }

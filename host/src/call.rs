@@ -1,6 +1,8 @@
-use crate::{Answer, Fms64, Mac16, State, Vecfp, Vecint, unit};
+use crate::{Answer, Fms64, Mac16, NotDone, State, Vecfp, Vecint, unit};
 
-/// A call of the step. Any numbers may stand here: the step answers for all of them.
+/// A call of the step. Any numbers may stand here: the step answers for all of them. Those that are built of fields have numbers that the
+/// unit covers; [`new`](Self::new) takes any.
+#[must_use = "a call does nothing before it is stepped"]
 #[derive(Clone, Copy, Debug, PartialEq, Eq, Hash)]
 pub struct Call {
     /// 11 is fms64, 14 is mac16, 18 is vecint, 19 is vecfp.
@@ -157,6 +159,7 @@ pub fn step_bytes(state: &mut [u8], instruction: u64, generation: u64, operand: 
 /// assert_eq!((&out[..5], out[CHECKPOINT_LENGTH]), (&[2, 1, 0, 0, 0][..], 9));
 /// assert_eq!(checkpoint_bytes(State::new().bytes(), 1 << 32, &mut out), 0);
 /// ```
+#[must_use = "nothing was written where this is 0"]
 pub fn checkpoint_bytes(state: &[u8], consumed: u64, out: &mut [u8]) -> usize {
     unit::checkpoint(state, consumed, out) as usize
 }
@@ -165,15 +168,13 @@ pub fn checkpoint_bytes(state: &[u8], consumed: u64, out: &mut [u8]) -> usize {
 /// serial. An error is the step's own no-op, or its refusal of the generation, the instruction or an operand that is not covered.
 ///
 /// ```
-/// use amx::{Answer, Call, Reason, normal};
+/// use amx::{Call, NotDone, Reason, normal};
 /// assert_eq!(normal(Call::new(14, 1, 1 << 63 | 1 << 62 | 7)), Ok(1 << 63 | 7));
-/// assert_eq!(normal(Call::new(18, 1, 1 << 54)), Err(Answer::NoOp(Reason::ReservedBits)));
+/// assert_eq!(normal(Call::new(18, 1, 1 << 54)), Err(NotDone::NoOp(Reason::ReservedBits)));
 /// ```
-pub fn normal(call: Call) -> Result<u64, Answer> {
-    match unit::normal_answer(call.instruction, call.generation, call.operand) {
-        0 => Ok(unit::normal_operand(call.instruction, call.generation, call.operand)),
-        number => Err(answered(number)),
-    }
+pub fn normal(call: Call) -> Result<u64, NotDone> {
+    let answer = answered(unit::normal_answer(call.instruction, call.generation, call.operand));
+    answer.done().map(|_| unit::normal_operand(call.instruction, call.generation, call.operand))
 }
 
 /// Every call of a list in turn on one state, each with the serial then due; the answer of each.
@@ -185,6 +186,7 @@ pub fn normal(call: Call) -> Result<u64, Answer> {
 /// assert_eq!(run(&mut state, &calls), [Answer::Done { bytes: 64 }, Answer::NoOp(Reason::ReservedBits)]);
 /// assert_eq!(state.count(), 2);
 /// ```
+#[must_use = "answers that are dropped hide refusals and no-ops"]
 pub fn run(state: &mut State, calls: &[Call]) -> Vec<Answer> {
     calls.iter().map(|&call| step_due(state, call)).collect()
 }

@@ -1,4 +1,4 @@
-use crate::{Answer, Call, Field, Generation, Instruction, Refusal, State, fields, normal, reference, step};
+use crate::{Answer, Call, Field, Generation, Instruction, NotDone, Refusal, State, fields, normal, reference, step};
 use std::fmt;
 
 /// How the words of a field's value end that the unit does not cover.
@@ -31,12 +31,10 @@ pub struct Explanation {
 /// assert_eq!(explanation.normal, 1 << 63 | 3 << 20);
 /// assert!(explanation.to_string().contains("ignored and set: bit 62"));
 /// ```
-pub fn explain(call: Call) -> Result<Explanation, Answer> {
+pub fn explain(call: Call) -> Result<Explanation, NotDone> {
     let answer = step(&mut State::new(), call, 0);
-    let (Some(instruction), Some(generation)) = (Instruction::from_number(call.instruction), Generation::from_number(call.generation))
-    else {
-        return Err(answer);
-    };
+    let generation = Generation::from_number(call.generation).ok_or(NotDone::Refused(Refusal::Generation))?;
+    let instruction = Instruction::from_number(call.instruction).ok_or(NotDone::Refused(Refusal::Instruction))?;
     Ok(Explanation {
         call,
         instruction,

@@ -68,7 +68,7 @@ pub mod text;
 mod trace;
 mod unit;
 
-pub use answer::{Answer, Reason, Refusal};
+pub use answer::{Answer, NotDone, Reason, Refusal};
 pub use call::{Call, Generation, Instruction, checkpoint_bytes, normal, run, step, step_bytes};
 pub use explain::{Explanation, explain, lane_grid};
 pub use operand::{Field, FieldError, Float, Fms64, IndexBits, Mac16, Side, Vecfp, Vecint, Vectors, When, fields, with_field};

@@ -281,6 +281,7 @@ impl Trace {
 
     /// Runs the records that are not consumed in turn, from the checkpoint or else from the starting state, each with the serial then due:
     /// the end state, and the answer of each.
+    #[must_use = "the trace stays as it is: the end state and the answers are the result"]
     pub fn run(&self) -> (State, Vec<Answer>) {
         run_records(self.header.state(), self.records.iter().skip(self.header.consumed()))
     }

@@ -1,7 +1,7 @@
 //! The scope's numbers at the edges, on the proved unit and on the reference.
 use amx::{
-    Answer, Call, FieldError, Float, Fms64, Generation::M1, Generation::M2, IndexBits, Mac16, Reason, Refusal, Register, Side, State,
-    Trace, Vecfp, Vecint, Vectors, Width, normal, reference, step,
+    Answer, Call, FieldError, Float, Fms64, Generation::M1, Generation::M2, IndexBits, Mac16, NotDone, Reason, Refusal, Register, Side,
+    State, Trace, Vecfp, Vecint, Vectors, Width, normal, reference, step,
 };
 use std::error::Error;
 
@@ -420,7 +420,7 @@ fn what_an_indexed_load_ignores_and_what_refuses_it() -> Test {
         // without bit 53, bit 52 is one of the ALU mode's
         let call = Call::new(18, generation as u64, 1 << 52);
         assert_eq!(stepped(&start, call).1, Answer::NoOp(Reason::ReservedMode));
-        assert_eq!(normal(call), Err(Answer::NoOp(Reason::ReservedMode)));
+        assert_eq!(normal(call), Err(NotDone::NoOp(Reason::ReservedMode)));
     }
     Ok(())
 }
@@ -666,7 +666,7 @@ fn what_vecfp_answers_where_it_is_not_done() {
             };
             let (after, answer) = stepped(&start, call);
             assert_eq!(answer, expected, "{mode} {widths}");
-            assert_eq!(normal(call), if answer.is_done() { Ok(call.operand) } else { Err(answer) });
+            assert_eq!(normal(call), answer.done().map(|_| call.operand));
             match answer {
                 Answer::Refused(_) => assert!(after == start),
                 Answer::NoOp(_) => assert!(after == counted(&start)),

@@ -362,7 +362,7 @@ fn normal_fault(case: &Case) -> Option<String> {
     let [Sent { call, serial }] = case.sent[..] else { return None };
     let given = normal(call);
     let expected = reference::normal(call.instruction, call.generation, call.operand);
-    if given.map_err(Answer::number) != expected {
+    if given.map_err(|not_done| Answer::from(not_done).number()) != expected {
         return Some(format!("the normal operand is {given:x?}, and by the reference {expected:x?}"));
     }
     let Ok(operand) = given else { return None };
