@@ -1,4 +1,4 @@
-use crate::{Answer, Fms64, Mac16, NotDone, State, Vecfp, Vecint, unit};
+use crate::{Answer, Fms64, Mac16, NotDone, Reduction, State, Vecfp, Vecint, unit};
 
 /// A call of the step. Any numbers may stand here: the step answers for all of them. Those that are built of fields have numbers that the
 /// unit covers; [`new`](Self::new) takes any.
@@ -86,24 +86,33 @@ impl Call {
         Call { instruction, generation, operand }
     }
 
-    /// A mac16, by its fields.
+    /// A mac16, by its fields, which are the same on both generations.
     pub fn mac16(generation: Generation, fields: Mac16) -> Self {
-        Call::new(Instruction::Mac16 as u64, generation as u64, fields.operand())
+        Call::known(Instruction::Mac16, generation, fields.operand())
     }
 
-    /// A vecint, by its fields.
-    pub fn vecint(generation: Generation, fields: Vecint) -> Self {
-        Call::new(Instruction::Vecint as u64, generation as u64, fields.operand())
-    }
-
-    /// A vecfp, by its fields.
-    pub fn vecfp(generation: Generation, fields: Vecfp) -> Self {
-        Call::new(Instruction::Vecfp as u64, generation as u64, fields.operand())
-    }
-
-    /// An fms64, by its fields.
+    /// An fms64, likewise.
     pub fn fms64(generation: Generation, fields: Fms64) -> Self {
-        Call::new(Instruction::Fms64 as u64, generation as u64, fields.operand())
+        Call::known(Instruction::Fms64, generation, fields.operand())
+    }
+
+    /// A vecint, by its fields, which are a generation's.
+    pub fn vecint(fields: Vecint) -> Self {
+        Call::known(Instruction::Vecint, fields.generation(), fields.operand())
+    }
+
+    /// A vecint in ALU mode 4, likewise.
+    pub fn reduction(fields: Reduction) -> Self {
+        Call::known(Instruction::Vecint, fields.generation(), fields.operand())
+    }
+
+    /// A vecfp, likewise.
+    pub fn vecfp(fields: Vecfp) -> Self {
+        Call::known(Instruction::Vecfp, fields.generation(), fields.operand())
+    }
+
+    fn known(instruction: Instruction, generation: Generation, operand: u64) -> Self {
+        Call::new(instruction as u64, generation as u64, operand)
     }
 }
 
@@ -205,7 +214,7 @@ fn answered(number: u64) -> Answer {
 #[cfg(test)]
 mod tests {
     use super::*;
-    use crate::{STATE_LENGTH, random::Random, reference};
+    use crate::{STATE_LENGTH, explain, random::Random, reference};
 
     #[test]
     fn an_operand_that_is_not_done_is_handed_back_as_given() {
@@ -214,6 +223,15 @@ mod tests {
             let Call { instruction, generation, operand } = random.call();
             let expected = reference::normal(instruction, generation, operand).unwrap_or(operand);
             assert_eq!(unit::normal_operand(instruction, generation, operand), expected);
+        }
+    }
+
+    #[test]
+    fn what_has_no_fields_is_refused_as_the_step_refuses_it() {
+        for (instruction, generation) in [(15, 1), (14, 3), (15, 3), (1 << 32 | 14, 2), (18, 0)] {
+            let call = Call::new(instruction, generation, 7 << 47);
+            let refused = step(&mut State::new(), call, 0).done().unwrap_err();
+            assert_eq!((normal(call), explain(call).err()), (Err(refused), Some(refused)));
         }
     }
 

@@ -323,8 +323,8 @@ fn widths(mode: u64, number: u64) -> &'static str {
 /// The places are the [`mod@reference`]'s; the bytes in the first line are the proved step's answer.
 ///
 /// ```
-/// use amx::{Call, Generation, Mac16, lane_grid};
-/// let call = Call::mac16(Generation::M1, Mac16::new().vector(true).z_row(7)?.x_enable_mode(2)?.x_enable_value(3)?);
+/// use amx::{Call, Generation, Mac16, SideEnable, lane_grid};
+/// let call = Call::mac16(Generation::M1, Mac16::new().vector(true).z_row(7)?.x_enable(SideEnable::First(3))?);
 /// assert_eq!(lane_grid(call), "done 6 bytes, lanes of 16 bits\nz 7   ###.............................\n");
 /// # Ok::<(), amx::FieldError>(())
 /// ```

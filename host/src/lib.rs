@@ -2,24 +2,24 @@
 //!
 //! - [`State`] holds the registers and the count of steps taken; [`step`] does one call on it, and [`step_bytes`] does so on bytes of any
 //!   length. A call names the count before it, its serial, so that one sent twice adds once.
-//! - [`Answer`] tells a step that was done from a no-op and a refusal, with the reason.
-//! - [`Mac16`], [`Vecint`], [`Vecfp`] and [`Fms64`] build operands by field; [`explain`] goes back, with the ignored bits; [`normal`]
-//!   clears those.
+//! - [`Answer`] tells a step that was done from a no-op and a refusal, with the reason; [`NotDone`] is what is not done, as an error.
+//! - [`Mac16`], [`Vecint`], [`Reduction`], [`Vecfp`] and [`Fms64`] build operands by field, of enums that have no reserved values;
+//!   [`Call::new`] and [`with_field`] take any number. [`explain`] goes back, with the ignored bits; [`normal`] clears those.
 //! - [`Trace`] holds a trace file, a whole one or one that goes on from a [`Checkpoint`]; [`TraceReader`], [`TraceWriter`] and [`write_run`]
 //!   read, write and run one step by step, of up to 1,000,000; [`text`] does so with their texts.
 //! - [`mod@reference`] is a second program for the same pages, whose floats are whole numbers ([`rounding`]). Nothing here relies on it but
 //!   [`lane_grid`], and builds without the proved unit; the `compare` program runs both.
 //!
 //! ```
-//! use amx::{Answer, Call, Generation, Register, State, Vecint, Vectors, Width, step};
+//! use amx::{AluMode, Answer, Call, Enable, LaneWidths, Register, State, Vecint, Width, step};
 //!
 //! // X byte 255 unsigned times Y byte -1 signed, onto 16-bit lanes
 //! let mut state = State::new();
 //! state.set_lane(Register::X(0), 0, Width::Bits8, 255);
 //! state.set_lane(Register::Y(0), 0, Width::Bits8, -1);
-//! let fields = Vecint::new(0, Vectors::One)?.lane_widths(11)?.y_signed(true)?;
+//! let fields = Vecint::m1(AluMode::AddProduct, Enable::All)?.lane_widths(LaneWidths::X8Y8Z16).y_signed(true);
 //!
-//! assert_eq!(step(&mut state, Call::vecint(Generation::M1, fields), 0), Answer::Done { bytes: 128 });
+//! assert_eq!(step(&mut state, Call::vecint(fields), 0), Answer::Done { bytes: 128 });
 //! assert_eq!(state.signed_lane(Register::Z(0), 0, Width::Bits16), -255);
 //! # Ok::<(), amx::FieldError>(())
 //! ```
@@ -39,7 +39,7 @@
 //! them, nor puts them back.
 //!
 //! ```
-//! use amx::{Answer, Call, Float, Generation, Register, State, Vecfp, Vectors, step};
+//! use amx::{Answer, Call, Enable, Float, FloatMode, Register, State, Vecfp, Vectors, step};
 //!
 //! // 1 + 2^-24 ties between 1 and the f32 after it, and 1 is even; inf - inf is the default NaN
 //! let mut state = State::new();
@@ -47,9 +47,9 @@
 //! state.set_f32(Register::X(0), 0, (2.0f32).powi(-24));
 //! state.set_f32(Register::Z(0), 1, f32::INFINITY);
 //! state.set_f32(Register::X(0), 1, f32::NEG_INFINITY);
-//! let fields = Vecfp::new(11, Float::Single, Vectors::One)?;
+//! let fields = Vecfp::m2(FloatMode::AddX, Float::Single, Vectors::One(Enable::All))?;
 //!
-//! assert_eq!(step(&mut state, Call::vecfp(Generation::M2, fields), 0), Answer::Done { bytes: 64 });
+//! assert_eq!(step(&mut state, Call::vecfp(fields), 0), Answer::Done { bytes: 64 });
 //! assert_eq!(state.f32_lane(Register::Z(0), 0), 1.0);
 //! assert_eq!(state.f32_lane(Register::Z(0), 1).to_bits(), 0x7fc0_0000);
 //! # Ok::<(), amx::FieldError>(())
@@ -71,7 +71,10 @@ mod unit;
 pub use answer::{Answer, NotDone, Reason, Refusal};
 pub use call::{Call, Generation, Instruction, checkpoint_bytes, normal, run, step, step_bytes};
 pub use explain::{Explanation, explain, lane_grid};
-pub use operand::{Field, FieldError, Float, Fms64, IndexBits, Mac16, Side, Vecfp, Vecint, Vectors, When, fields, with_field};
+pub use operand::{
+    AluMode, Broadcast, Enable, Field, FieldError, Float, FloatMode, Fms64, IndexBits, LaneWidths, Mac16, Reduction, ReductionWidths, Side,
+    SideEnable, Vecfp, Vecint, Vectors, When, fields, with_field,
+};
 pub use state::{REGISTER_BYTES, Register, STATE_LENGTH, State, Width};
 pub use stream::{ReadError, TraceReader, TraceWriter, WriteError, print_trace, write_run};
 pub use trace::{CHECKPOINT_LENGTH, Checkpoint, FileRefusal, NoCheckpoint, NoRecord, Record, Trace, TraceFull, TraceHeader};

@@ -1,7 +1,8 @@
 //! The scope's numbers at the edges, on the proved unit and on the reference.
 use amx::{
-    Answer, Call, FieldError, Float, Fms64, Generation::M1, Generation::M2, IndexBits, Mac16, NotDone, Reason, Refusal, Register, Side,
-    State, Trace, Vecfp, Vecint, Vectors, Width, normal, reference, step,
+    AluMode, Answer, Broadcast, Call, Enable, FieldError, Float, FloatMode, Fms64, Generation::M1, Generation::M2, IndexBits, Instruction,
+    LaneWidths, Mac16, NotDone, Reason, Reduction, ReductionWidths, Refusal, Register, Side, SideEnable, State, Trace, Vecfp, Vecint,
+    Vectors, Width, normal, reference, step, with_field,
 };
 use std::error::Error;
 
@@ -29,6 +30,9 @@ fn counted(start: &State) -> State {
     state.set_count(start.count() + 1);
     state
 }
+
+/// One vector, with all its lanes.
+const ONE: Vectors = Vectors::One(Enable::All);
 
 const X: Register = Register::X(0);
 const Y: Register = Register::Y(0);
@@ -78,7 +82,7 @@ fn matrix_lanes_go_to_their_places() -> Test {
 
 #[test]
 fn first_3_by_odd_is_48_lanes() -> Test {
-    let fields = Mac16::new().x_enable_mode(2)?.x_enable_value(3)?.y_enable_value(1)?;
+    let fields = Mac16::new().x_enable(SideEnable::First(3))?.y_enable(SideEnable::Odd)?;
     for (wide, bytes) in [(false, 96), (true, 192)] {
         let call = Call::mac16(M2, fields.z_i32(wide));
         assert_eq!(reference::lanes(call.instruction, call.generation, call.operand).len(), 48);
@@ -90,52 +94,57 @@ fn first_3_by_odd_is_48_lanes() -> Test {
 #[test]
 fn a_step_reports_the_bytes_of_its_lanes() -> Test {
     // five lanes of 8, 16 and 32 bits, in mode 4 and by products; none; and four vectors where one reports 64 bytes
-    let five = |mode, widths| Vecint::new(mode, Vectors::One)?.lane_widths(widths)?.enable_mode(2)?.enable_value(5);
-    for (mode, widths, bytes) in [(4, 9, 5), (4, 0, 10), (4, 3, 20), (0, 11, 10), (0, 0, 10), (0, 3, 20), (0, 10, 20)] {
-        assert_eq!(stepped(&State::new(), Call::vecint(M1, five(mode, widths)?)).1, Answer::Done { bytes }, "{mode} {widths}");
+    let answer = |call| stepped(&State::new(), call).1;
+    for (widths, bytes) in [(ReductionWidths::Z8To8, 5), (ReductionWidths::Z16To16, 10), (ReductionWidths::Z32To16, 20)] {
+        let five = Reduction::m1(Enable::First(5))?.lane_widths(widths);
+        assert_eq!(answer(Call::reduction(five)), Answer::Done { bytes }, "{widths:?}");
     }
-    assert_eq!(stepped(&State::new(), Call::vecint(M1, five(0, 0)?.enable_mode(6)?)).1, Answer::Done { bytes: 0 });
-    for (vectors, bytes) in [(Vectors::One, 64), (Vectors::Two, 128), (Vectors::Four, 256)] {
-        for fields in [Vecint::new(0, vectors)?, Vecint::new(4, vectors)?.lane_widths(9)?] {
-            assert_eq!(stepped(&State::new(), Call::vecint(M2, fields)).1, Answer::Done { bytes });
-        }
+    for (widths, bytes) in [(LaneWidths::X8Y8Z16, 10), (LaneWidths::X16Y16Z16, 10), (LaneWidths::X16Y16Z32, 20), (LaneWidths::X8Y8Z32, 20)]
+    {
+        let five = Vecint::m1(AluMode::AddProduct, Enable::First(5))?.lane_widths(widths);
+        assert_eq!(answer(Call::vecint(five)), Answer::Done { bytes }, "{widths:?}");
+    }
+    assert_eq!(answer(Call::vecint(Vecint::m1(AluMode::AddProduct, Enable::NoLane)?)), Answer::Done { bytes: 0 });
+    for (vectors, bytes) in [(ONE, 64), (Vectors::Two(Broadcast::Consecutive), 128), (Vectors::Four(Broadcast::Consecutive), 256)] {
+        assert_eq!(answer(Call::vecint(Vecint::m2(AluMode::AddProduct, vectors)?)), Answer::Done { bytes });
+        assert_eq!(answer(Call::reduction(Reduction::m2(vectors)?.lane_widths(ReductionWidths::Z8To8))), Answer::Done { bytes });
     }
     Ok(())
 }
 
 #[test]
 fn modes_5_and_6_round_and_clamp() -> Test {
-    let signed = |mode| Vecint::new(mode, Vectors::One)?.x_signed(true)?.y_signed(true);
-    assert_eq!(lane_0(Call::vecint(M1, signed(5)?), Bits16, 32_767, 32_767, 0), 32_766);
-    assert_eq!(lane_0(Call::vecint(M1, signed(5)?), Bits16, 32_767, 32_767, 2), 32_767);
-    assert_eq!(lane_0(Call::vecint(M1, signed(6)?), Bits16, 1, 16_384, 0), -1);
+    let signed = |mode| Ok::<_, FieldError>(Call::vecint(Vecint::m1(mode, Enable::All)?.x_signed(true).y_signed(true)));
+    assert_eq!(lane_0(signed(AluMode::AddRoundedProduct)?, Bits16, 32_767, 32_767, 0), 32_766);
+    assert_eq!(lane_0(signed(AluMode::AddRoundedProduct)?, Bits16, 32_767, 32_767, 2), 32_767);
+    assert_eq!(lane_0(signed(AluMode::SubtractRoundedProduct)?, Bits16, 1, 16_384, 0), -1);
     Ok(())
 }
 
 #[test]
 fn mixed_signs_at_widths_11() -> Test {
-    let fields = Vecint::new(0, Vectors::One)?.y_signed(true)?.lane_widths(11)?;
+    let fields = Vecint::m1(AluMode::AddProduct, Enable::All)?.y_signed(true).lane_widths(LaneWidths::X8Y8Z16);
     let start = state(&[(X, 0, Bits8, 255), (Y, 0, Bits8, -1)]);
-    assert_eq!(stepped(&start, Call::vecint(M1, fields)).0.signed_lane(Z, 0, Bits16), -255);
-    assert_eq!(stepped(&start, Call::vecint(M1, fields.shift(4)?)).0.signed_lane(Z, 0, Bits16), -16);
+    assert_eq!(stepped(&start, Call::vecint(fields)).0.signed_lane(Z, 0, Bits16), -255);
+    assert_eq!(stepped(&start, Call::vecint(fields.shift(4)?)).0.signed_lane(Z, 0, Bits16), -16);
     Ok(())
 }
 
 #[test]
 fn mode_4_truncates_rounds_and_clamps() -> Test {
-    let fields = Vecint::new(4, Vectors::One)?.z_signed(true)?;
-    assert_eq!(lane_0(Call::vecint(M1, fields.shift(1)?), Bits16, 0, 0, -5), -3);
-    assert_eq!(lane_0(Call::vecint(M1, fields.shift(1)?.rounding(true)?), Bits16, 0, 0, -5), -2);
-    let to_8 = fields.saturate(true)?.saturate_signed(true)?;
-    assert_eq!(lane_0(Call::vecint(M1, to_8.lane_widths(11)?), Bits16, 0, 0, 300), 127);
-    assert_eq!(lane_0(Call::vecint(M1, to_8.lane_widths(10)?), Bits32, 0, 0, 300), 127);
+    let fields = Reduction::m1(Enable::All)?.z_signed(true);
+    assert_eq!(lane_0(Call::reduction(fields.shift(1)?), Bits16, 0, 0, -5), -3);
+    assert_eq!(lane_0(Call::reduction(fields.shift(1)?.rounding(true)), Bits16, 0, 0, -5), -2);
+    let to_8 = fields.saturate(true).saturate_signed(true);
+    assert_eq!(lane_0(Call::reduction(to_8.lane_widths(ReductionWidths::Z16To8)), Bits16, 0, 0, 300), 127);
+    assert_eq!(lane_0(Call::reduction(to_8.lane_widths(ReductionWidths::Z32To8)), Bits32, 0, 0, 300), 127);
     Ok(())
 }
 
 #[test]
 fn a_quartet_takes_the_place_of_the_low_bits_of_z_row() -> Test {
-    let fields = Vecint::new(0, Vectors::One)?.lane_widths(10)?.z_row(22)?;
-    let (state, _) = stepped(&state(&[(X, 37, Bits8, 3), (Y, 37, Bits8, 5)]), Call::vecint(M1, fields));
+    let fields = Vecint::m1(AluMode::AddProduct, Enable::All)?.lane_widths(LaneWidths::X8Y8Z32).z_row(22)?;
+    let (state, _) = stepped(&state(&[(X, 37, Bits8, 3), (Y, 37, Bits8, 5)]), Call::vecint(fields));
     assert_eq!(state.lane(Register::Z(21), 9, Bits32), 15);
     assert_eq!(state.registers()[1_024..].iter().filter(|&&byte| byte != 0).count(), 1);
     Ok(())
@@ -143,35 +152,35 @@ fn a_quartet_takes_the_place_of_the_low_bits_of_z_row() -> Test {
 
 #[test]
 fn widths_12_and_13_need_both_masks() -> Test {
-    let masked = |widths, mode, value| Vecint::new(11, Vectors::One)?.lane_widths(widths)?.enable_mode(mode)?.enable_value(value);
+    use LaneWidths::{X8Y16Z32, X16Y8Z32};
+    let masked = |widths, enable| Ok::<_, FieldError>(Call::vecint(Vecint::m2(AluMode::AddX, Vectors::One(enable))?.lane_widths(widths)));
     // odd lanes: k = 3, 7, 11 and so on, which are the whole of the fourth row
     let ones = state(&(0..64).map(|lane| (X, lane, Bits8, 1)).collect::<Vec<_>>());
-    let (after, answer) = stepped(&ones, Call::vecint(M2, masked(12, 0, 1)?));
+    let (after, answer) = stepped(&ones, masked(X8Y16Z32, Enable::Odd)?);
     assert_eq!(answer, Answer::Done { bytes: 4 * 16 });
     for (row, lane) in (0..64).flat_map(|row| (0..16).map(move |lane| (row, lane))) {
         assert_eq!(after.lane(Register::Z(row), lane, Bits32), u32::from(row == 3));
     }
-    // each mask has its own lane count; values 3, 4 and 5 and enable mode 1 enable all
-    for (widths, mode, value, lanes) in [
-        (12, 2, 40, 40),
-        (12, 5, 40, 40),
-        (13, 0, 2, 16),
-        (13, 2, 5, 5),
-        (13, 3, 5, 5),
-        (12, 0, 3, 64),
-        (13, 0, 4, 64),
-        (12, 0, 5, 64),
-        (13, 1, 9, 64),
+    // each mask has its own lane count; those that read or write something else enable all
+    for (widths, enable, lanes) in [
+        (X8Y16Z32, Enable::First(40), 40),
+        (X8Y16Z32, Enable::LastOrNone(40), 40),
+        (X16Y8Z32, Enable::Even, 16),
+        (X16Y8Z32, Enable::First(5), 5),
+        (X16Y8Z32, Enable::Last(5), 5),
+        (X8Y16Z32, Enable::ZeroOutput, 64),
+        (X16Y8Z32, Enable::ZeroX, 64),
+        (X8Y16Z32, Enable::ZeroY, 64),
+        (X16Y8Z32, Enable::BroadcastY(9), 64),
     ] {
-        let call = Call::vecint(M2, masked(widths, mode, value)?);
-        assert_eq!(stepped(&ones, call).1, Answer::Done { bytes: 4 * lanes }, "{widths} {mode} {value}");
+        assert_eq!(stepped(&ones, masked(widths, enable)?).1, Answer::Done { bytes: 4 * lanes }, "{widths:?} {enable:?}");
     }
     Ok(())
 }
 
 #[test]
 fn odd_lanes_of_widths_12_leave_row_1_to_others() -> Test {
-    let odd = Call::vecint(M1, Vecint::new(0, Vectors::One)?.lane_widths(12)?.enable_value(1)?);
+    let odd = Call::vecint(Vecint::m1(AluMode::AddProduct, Enable::Odd)?.lane_widths(LaneWidths::X8Y16Z32));
     let stored = Call::mac16(M1, Mac16::new().vector(true).skip_z(true).z_row(1)?);
     let start = State::from_registers(std::array::from_fn(|at| (at * 37 % 251) as u8));
     let one = stepped(&stepped(&start, odd).0, stored).0;
@@ -186,7 +195,7 @@ fn odd_lanes_of_widths_12_leave_row_1_to_others() -> Test {
 fn four_vectors_go_to_four_rows() -> Test {
     // Z row 37 has bit 25 set, which makes the vectors four
     let call = Call::new(18, 2, 1 << 31 | 37 << 20);
-    assert_eq!(call, Call::vecint(M2, Vecint::new(0, Vectors::Four)?.z_row(5)?));
+    assert_eq!(call, Call::vecint(Vecint::m2(AluMode::AddProduct, Vectors::Four(Broadcast::Consecutive))?.z_row(5)?));
     let rows = |call: Call| {
         let mut rows: Vec<_> = reference::lanes(call.instruction, call.generation, call.operand).iter().map(|lane| lane.row).collect();
         rows.dedup();
@@ -212,8 +221,8 @@ fn a_load_goes_round_the_ring() -> Test {
 
 #[test]
 fn a_broadcast_lane_is_taken_modulo_the_lanes_of_y() -> Test {
-    let fields = Vecint::new(0, Vectors::One)?.enable_mode(1)?.enable_value(33)?;
-    let (state, _) = stepped(&state(&[(X, 9, Bits16, 2), (Y, 1, Bits16, 21)]), Call::vecint(M1, fields));
+    let call = Call::vecint(Vecint::m1(AluMode::AddProduct, Enable::BroadcastY(33))?);
+    let (state, _) = stepped(&state(&[(X, 9, Bits16, 2), (Y, 1, Bits16, 21)]), call);
     assert_eq!(state.lane(Z, 9, Bits16), 42);
     Ok(())
 }
@@ -258,26 +267,27 @@ fn an_index_names_an_element_of_the_register() -> Test {
     for side in [Side::X, Side::Y] {
         // two bits, lowest first: e4 is 0 1 2 3, and 1b is 3 2 1 0
         let start = tables(side, Bits16, 2, &[10, 20, 30, 40, 99], &[(0, 0xe4), (1, 0x1b)], Bits16);
-        let (after, answer) = stepped(&start, Call::vecint(M1, Vecint::indexed(side, IndexBits::Two, 2, Vectors::One)?));
+        let (after, answer) = stepped(&start, Call::vecint(Vecint::m1_indexed(side, IndexBits::Two, 2, Enable::All)?));
         assert_eq!(first_lanes(&after, 1, Bits16), [10, 20, 30, 40, 40, 30, 20, 10, 10, 10]);
         assert_eq!(answer, Answer::Done { bytes: 64 });
         // four bits: 10 is 0 1, and f4 is 4 15; of 8-bit lanes, the last is by the high half of byte 31
         let table: Vec<i64> = (100..116).collect();
         let start = tables(side, Bits16, 7, &table, &[(0, 0x10), (1, 0x32), (2, 0xf4)], Bits16);
-        let (after, _) = stepped(&start, Call::vecint(M2, Vecint::indexed(side, IndexBits::Four, 7, Vectors::One)?));
+        let (after, _) = stepped(&start, Call::vecint(Vecint::m2_indexed(side, IndexBits::Four, 7, ONE)?));
         assert_eq!(first_lanes(&after, 1, Bits16), [100, 101, 102, 103, 104, 115, 100, 100]);
         let start = tables(side, Bits8, 7, &table, &[(0, 0x10), (1, 0xf2), (31, 0xc0)], Bits8);
-        let (after, answer) = stepped(&start, Call::vecint(M1, Vecint::indexed(side, IndexBits::Four, 7, Vectors::One)?.lane_widths(10)?));
+        let fields = Vecint::m1_indexed(side, IndexBits::Four, 7, Enable::All)?.lane_widths(LaneWidths::X8Y8Z32);
+        let (after, answer) = stepped(&start, Call::vecint(fields));
         assert_eq!(first_lanes(&after, 4, Bits32), [100, 101, 102, 115, 100, 100]);
         assert_eq!((after.lane(Register::Z(3), 15, Bits32), answer), (112, Answer::Done { bytes: 256 }));
         // of two bits, by the two highest of byte 15; the elements are signed as the side is
         let start = tables(side, Bits8, 1, &[-1, -2, -3, -4], &[(0, 0x0c), (15, 0x80)], Bits8);
-        let fields = Vecint::indexed(side, IndexBits::Two, 1, Vectors::One)?.lane_widths(11)?;
-        let (after, _) = stepped(&start, Call::vecint(M1, fields));
+        let fields = Vecint::m1_indexed(side, IndexBits::Two, 1, Enable::All)?.lane_widths(LaneWidths::X8Y8Z16);
+        let (after, _) = stepped(&start, Call::vecint(fields));
         assert_eq!(first_lanes(&after, 2, Bits16), [255, 252, 255]);
         assert_eq!(after.lane(Register::Z(1), 31, Bits16), 253);
-        let signed = if side == Side::X { fields.x_signed(true)? } else { fields.y_signed(true)? };
-        let (after, _) = stepped(&start, Call::vecint(M1, signed));
+        let signed = if side == Side::X { fields.x_signed(true) } else { fields.y_signed(true) };
+        let (after, _) = stepped(&start, Call::vecint(signed));
         assert_eq!([0, 1].map(|row| after.signed_lane(Register::Z(row), 0, Bits16)), [-1, -4]);
     }
     Ok(())
@@ -288,8 +298,8 @@ fn indices_go_round_the_ring_and_the_register_stays() -> Test {
     for side in [Side::X, Side::Y] {
         // offset 500: byte 511 has the indices 22 and 23, byte 0 has 24 and 25
         let start = tables(side, Bits16, 1, &[7, 8, 9, 10, 11], &[(511, 0x21), (0, 0x43)], Bits16);
-        let fields = at_offset(side, Vecint::indexed(side, IndexBits::Four, 1, Vectors::One)?, 500)?;
-        let (after, _) = stepped(&start, Call::vecint(M1, fields));
+        let fields = at_offset(side, Vecint::m1_indexed(side, IndexBits::Four, 1, Enable::All)?, 500)?;
+        let (after, _) = stepped(&start, Call::vecint(fields));
         let lanes: [u32; 32] = first_lanes(&after, 1, Bits16);
         assert_eq!((lanes[..22].to_vec(), &lanes[22..]), (vec![7; 22], [8, 9, 10, 11, 7, 7, 7, 7, 7, 7].as_slice()));
     }
@@ -300,50 +310,61 @@ fn indices_go_round_the_ring_and_the_register_stays() -> Test {
 fn the_lanes_of_widths_12_and_13_share_the_wider_side_s_elements() -> Test {
     // the narrower side has an index for each lane, the wider one for each pair of lanes
     for (widths, side, width, ones, lanes) in [
-        (12, Side::X, Bits8, Bits16, [21, 22, 20, 23, 20]),
-        (12, Side::Y, Bits16, Bits8, [21, 21, 22, 22, 20]),
-        (13, Side::X, Bits16, Bits8, [21, 21, 22, 22, 20]),
-        (13, Side::Y, Bits8, Bits16, [21, 22, 20, 23, 20]),
+        (LaneWidths::X8Y16Z32, Side::X, Bits8, Bits16, [21, 22, 20, 23, 20]),
+        (LaneWidths::X8Y16Z32, Side::Y, Bits16, Bits8, [21, 21, 22, 22, 20]),
+        (LaneWidths::X16Y8Z32, Side::X, Bits16, Bits8, [21, 21, 22, 22, 20]),
+        (LaneWidths::X16Y8Z32, Side::Y, Bits8, Bits16, [21, 22, 20, 23, 20]),
     ] {
         let start = tables(side, width, 4, &[20, 21, 22, 23], &[(0, 0x21), (1, 0x30)], ones);
-        let (after, answer) =
-            stepped(&start, Call::vecint(M1, Vecint::indexed(side, IndexBits::Four, 4, Vectors::One)?.lane_widths(widths)?));
-        assert_eq!((first_lanes(&after, 4, Bits32), answer), (lanes, Answer::Done { bytes: 256 }), "{widths} {side:?}");
+        let fields = Vecint::m1_indexed(side, IndexBits::Four, 4, Enable::All)?.lane_widths(widths);
+        let (after, answer) = stepped(&start, Call::vecint(fields));
+        assert_eq!((first_lanes(&after, 4, Bits32), answer), (lanes, Answer::Done { bytes: 256 }), "{widths:?} {side:?}");
     }
     Ok(())
 }
 
+/// The width of a side's lanes.
+fn side_width(side: Side, widths: LaneWidths) -> Width {
+    use LaneWidths::*;
+    match (widths, side) {
+        (X8Y8Z16 | X8Y8Z32, _) | (X8Y16Z32, Side::X) | (X16Y8Z32, Side::Y) => Bits8,
+        _ => Bits16,
+    }
+}
+
 /// Lane 0 of each of four vectors: 50 to 53 by the indices 0 to 3, which are `advance` bytes apart, times 1 to 4 from the other side's registers.
-fn four_vectors(side: Side, indices: IndexBits, widths: u64, advance: usize, broadcast: u64) -> Result<[u32; 4], Box<dyn Error>> {
-    let narrow = |side| matches!((widths, side), (10 | 11, _) | (12, Side::X) | (13, Side::Y));
-    let width = |side| if narrow(side) { Bits8 } else { Bits16 };
+fn four_vectors(side: Side, indices: IndexBits, widths: LaneWidths, advance: usize, broadcast: Broadcast) -> Result<[u32; 4], FieldError> {
+    let width = |side| side_width(side, widths);
     // from offset 480 on, round the ring; register 5 is in none of it
     let bytes: Vec<(usize, u8)> = (0..4).map(|n| ((480 + advance * n) % 512, n as u8)).collect();
     let mut start = tables(side, width(side), 5, &[50, 51, 52, 53], &bytes, width(other(side)));
     (0..4).for_each(|n| start.set_lane(register(other(side), n), 0, width(other(side)), n as i64 + 1));
-    let fields = Vecint::indexed(side, indices, 5, Vectors::Four)?.lane_widths(widths)?.broadcast_mode(broadcast)?;
-    let (after, answer) = stepped(&start, Call::vecint(M2, at_offset(side, fields, 480)?));
-    let z = if matches!(widths, 0 | 11) { Bits16 } else { Bits32 };
-    let lanes = if narrow(Side::X) || narrow(Side::Y) { 64 } else { 32 };
-    assert_eq!(answer, Answer::Done { bytes: 4 * lanes * z.bytes() as u64 });
+    let fields = Vecint::m2_indexed(side, indices, 5, Vectors::Four(broadcast))?.lane_widths(widths);
+    let (after, answer) = stepped(&start, Call::vecint(at_offset(side, fields, 480)?));
+    let z = if matches!(widths, LaneWidths::X16Y16Z16 | LaneWidths::X8Y8Z16) { Bits16 } else { Bits32 };
+    let lanes = width(Side::X).lanes().max(width(Side::Y).lanes());
+    assert_eq!(answer, Answer::Done { bytes: (4 * lanes * z.bytes()) as u64 });
     Ok([0, 16, 32, 48].map(|row| after.lane(Register::Z(row), 0, z)))
 }
 
 #[test]
 fn an_indexed_side_advances_by_64_times_index_bits_over_lane_bits() -> Test {
+    use LaneWidths::*;
     for (side, widths, two, four) in [
-        (Side::X, 0, 8, 16),
-        (Side::Y, 0, 8, 16),
-        (Side::X, 3, 8, 16),
-        (Side::Y, 10, 16, 32),
-        (Side::X, 11, 16, 32),
-        (Side::X, 12, 16, 32),
-        (Side::Y, 12, 8, 16),
-        (Side::X, 13, 8, 16),
-        (Side::Y, 13, 16, 32),
+        (Side::X, X16Y16Z16, 8, 16),
+        (Side::Y, X16Y16Z16, 8, 16),
+        (Side::X, X16Y16Z32, 8, 16),
+        (Side::Y, X8Y8Z32, 16, 32),
+        (Side::X, X8Y8Z16, 16, 32),
+        (Side::X, X8Y16Z32, 16, 32),
+        (Side::Y, X8Y16Z32, 8, 16),
+        (Side::X, X16Y8Z32, 8, 16),
+        (Side::Y, X16Y8Z32, 16, 32),
     ] {
-        assert_eq!(four_vectors(side, IndexBits::Two, widths, two, 0)?, [50, 102, 156, 212], "{side:?} {widths}");
-        assert_eq!(four_vectors(side, IndexBits::Four, widths, four, 0)?, [50, 102, 156, 212], "{side:?} {widths}");
+        for (indices, advance) in [(IndexBits::Two, two), (IndexBits::Four, four)] {
+            let lanes = four_vectors(side, indices, widths, advance, Broadcast::Consecutive)?;
+            assert_eq!(lanes, [50, 102, 156, 212], "{side:?} {widths:?} {indices:?}");
+        }
     }
     Ok(())
 }
@@ -352,18 +373,22 @@ fn an_indexed_side_advances_by_64_times_index_bits_over_lane_bits() -> Test {
 fn broadcast_modes_repeat_the_indices_or_the_other_side() -> Test {
     let (advancing, repeated, other_repeated) = ([50, 102, 156, 212], [50, 100, 150, 200], [50, 51, 52, 53]);
     for (broadcast, x, y) in [
-        (0, advancing, advancing),
-        (1, [0; 4], [0; 4]),
-        (2, repeated, other_repeated),
-        (3, other_repeated, repeated),
-        (4, [0; 4], [0; 4]),
-        (5, [0; 4], [0; 4]),
-        (6, repeated, other_repeated),
-        (7, other_repeated, repeated),
+        (Broadcast::Consecutive, advancing, advancing),
+        (Broadcast::ZeroOutput, [0; 4], [0; 4]),
+        (Broadcast::SameX, repeated, other_repeated),
+        (Broadcast::SameY, other_repeated, repeated),
+        (Broadcast::ZeroX, [0; 4], [0; 4]),
+        (Broadcast::ZeroY, [0; 4], [0; 4]),
+        (Broadcast::Lane0OfX, repeated, other_repeated),
+        (Broadcast::Lane0OfY, other_repeated, repeated),
     ] {
-        for (indices, widths, advance) in [(IndexBits::Four, 0, 16), (IndexBits::Two, 11, 16), (IndexBits::Four, 10, 32)] {
-            assert_eq!(four_vectors(Side::X, indices, widths, advance, broadcast)?, x, "X, {broadcast}, {widths}");
-            assert_eq!(four_vectors(Side::Y, indices, widths, advance, broadcast)?, y, "Y, {broadcast}, {widths}");
+        for (indices, widths, advance) in [
+            (IndexBits::Four, LaneWidths::X16Y16Z16, 16),
+            (IndexBits::Two, LaneWidths::X8Y8Z16, 16),
+            (IndexBits::Four, LaneWidths::X8Y8Z32, 32),
+        ] {
+            assert_eq!(four_vectors(Side::X, indices, widths, advance, broadcast)?, x, "X, {broadcast:?}, {widths:?}");
+            assert_eq!(four_vectors(Side::Y, indices, widths, advance, broadcast)?, y, "Y, {broadcast:?}, {widths:?}");
         }
     }
     Ok(())
@@ -374,21 +399,20 @@ fn zeros_and_broadcast_lanes_come_after_the_indexed_load() -> Test {
     for side in [Side::X, Side::Y] {
         let mut start = tables(side, Bits16, 3, &[60, 61, 62, 63], &[(0, 0x32), (1, 0x01)], Bits16);
         (0..32).for_each(|lane| start.set_lane(Z, lane, Bits16, 5));
-        let fields = Vecint::indexed(side, IndexBits::Four, 3, Vectors::One)?;
-        let lanes = |mode, value| -> Result<[u32; 4], Box<dyn Error>> {
-            let (after, answer) = stepped(&start, Call::vecint(M1, fields.enable_mode(mode)?.enable_value(value)?));
+        let lanes = |enable| -> Result<[u32; 4], FieldError> {
+            let (after, answer) = stepped(&start, Call::vecint(Vecint::m1_indexed(side, IndexBits::Four, 3, enable)?));
             assert_eq!(answer, Answer::Done { bytes: 64 });
             Ok(first_lanes(&after, 1, Bits16))
         };
-        assert_eq!(lanes(0, 0)?, [67, 68, 66, 65]);
-        // output 0, X read as 0, Y read as 0: whichever side has the indices
-        assert_eq!((lanes(0, 3)?, lanes(0, 4)?, lanes(0, 5)?), ([0; 4], [5; 4], [5; 4]));
+        assert_eq!(lanes(Enable::All)?, [67, 68, 66, 65]);
+        // whichever side has the indices
+        assert_eq!((lanes(Enable::ZeroOutput)?, lanes(Enable::ZeroX)?, lanes(Enable::ZeroY)?), ([0; 4], [5; 4], [5; 4]));
         // Y lane 33 modulo 32, which the second index names
-        assert_eq!(lanes(1, 33)?, if side == Side::Y { [68; 4] } else { [67, 68, 66, 65] });
+        assert_eq!(lanes(Enable::BroadcastY(33))?, if side == Side::Y { [68; 4] } else { [67, 68, 66, 65] });
 
         // lane 0 for all lanes is the element that the first index names
-        let fields = Vecint::indexed(side, IndexBits::Four, 3, Vectors::Two)?.broadcast_mode(if side == Side::X { 6 } else { 7 })?;
-        let (after, _) = stepped(&start, Call::vecint(M2, fields));
+        let lane_0 = if side == Side::X { Broadcast::Lane0OfX } else { Broadcast::Lane0OfY };
+        let (after, _) = stepped(&start, Call::vecint(Vecint::m2_indexed(side, IndexBits::Four, 3, Vectors::Two(lane_0))?));
         assert_eq!(first_lanes(&after, 1, Bits16), [67; 32]);
         assert_eq!(after.lane(Register::Z(32), 31, Bits16), 62);
     }
@@ -426,8 +450,8 @@ fn what_an_indexed_load_ignores_and_what_refuses_it() -> Test {
 }
 
 /// A vecfp of one vector on M2.
-fn vecfp(mode: u64, format: Float) -> Result<Call, FieldError> {
-    Ok(Call::vecfp(M2, Vecfp::new(mode, format, Vectors::One)?))
+fn vecfp(mode: FloatMode, format: Float) -> Result<Call, FieldError> {
+    Vecfp::m2(mode, format, ONE).map(Call::vecfp)
 }
 
 /// A step on lane 0 of X, Y and Z of singles, by their patterns: lane 0 of Z afterwards.
@@ -465,8 +489,8 @@ fn sums_of_singles_round_once_to_the_nearest_even() -> Test {
         (0x7f80_0001, 0x3f80_0000, NAN),
         (0x3f80_0000, 0xffff_ffff, NAN),
     ] {
-        assert_eq!(single_0(vecfp(11, Float::Single)?, x, 0x7fc0_0001, z), sum, "{z:#x} + {x:#x}");
-        assert_eq!(single_0(vecfp(12, Float::Single)?, 0x7fc0_0001, x, z), sum, "{z:#x} + {x:#x}");
+        assert_eq!(single_0(vecfp(FloatMode::AddX, Float::Single)?, x, 0x7fc0_0001, z), sum, "{z:#x} + {x:#x}");
+        assert_eq!(single_0(vecfp(FloatMode::AddY, Float::Single)?, 0x7fc0_0001, x, z), sum, "{z:#x} + {x:#x}");
     }
     Ok(())
 }
@@ -484,20 +508,20 @@ fn products_round_once_and_old_z_is_not_used() -> Test {
         (0x8000_0000, 0x3f80_0000, 0x8000_0000),
         (0x7fbf_ffff, 0x0000_0000, NAN),
     ] {
-        assert_eq!(single_0(vecfp(10, Float::Single)?, x, y, 0x7f80_0001), product, "{x:#x} * {y:#x}");
+        assert_eq!(single_0(vecfp(FloatMode::Product, Float::Single)?, x, y, 0x7f80_0001), product, "{x:#x} * {y:#x}");
     }
     let tenth = 0.1f64.to_bits();
-    assert_eq!(double_0(vecfp(10, Float::Double)?, tenth, tenth, NAN_64), 0.010_000_000_000_000_002f64.to_bits());
-    assert_eq!(double_0(vecfp(10, Float::Double)?, 0, 0xfff0 << 48, 0), NAN_64);
-    assert_eq!(double_0(vecfp(11, Float::Double)?, tenth, 0, 0.2f64.to_bits()), 0.300_000_000_000_000_04f64.to_bits());
-    assert_eq!(double_0(vecfp(12, Float::Double)?, 0, 0x7ff0 << 48 | 1, 0), NAN_64);
+    assert_eq!(double_0(vecfp(FloatMode::Product, Float::Double)?, tenth, tenth, NAN_64), 0.010_000_000_000_000_002f64.to_bits());
+    assert_eq!(double_0(vecfp(FloatMode::Product, Float::Double)?, 0, 0xfff0 << 48, 0), NAN_64);
+    assert_eq!(double_0(vecfp(FloatMode::AddX, Float::Double)?, tenth, 0, 0.2f64.to_bits()), 0.300_000_000_000_000_04f64.to_bits());
+    assert_eq!(double_0(vecfp(FloatMode::AddY, Float::Double)?, 0, 0x7ff0 << 48 | 1, 0), NAN_64);
     Ok(())
 }
 
 #[test]
 fn a_selection_moves_bits() -> Test {
-    for call in [M1, M2] {
-        let call = Call::vecfp(call, Vecfp::new(4, Float::Single, Vectors::One)?);
+    for fields in [Vecfp::m1(FloatMode::Select, Float::Single, Enable::All)?, Vecfp::m2(FloatMode::Select, Float::Single, ONE)?] {
+        let call = Call::vecfp(fields);
         let y = 0xff80_0001;
         // at most 0: both zeros and all below
         for x in [0, 0x8000_0000, 0x8000_0001, 0xbf80_0000, 0xff80_0000] {
@@ -509,27 +533,29 @@ fn a_selection_moves_bits() -> Test {
             assert_eq!(single_0(call, x, 0x8000_0000, 0x1234), 0x8000_0000, "{x:#x}");
         }
     }
-    assert_eq!(double_0(vecfp(4, Float::Double)?, 1, 0xfff0 << 48 | 7, 9), 0xfff0 << 48 | 7);
-    assert_eq!(double_0(vecfp(4, Float::Double)?, MINUS_0, 0xfff0 << 48 | 7, 9), 0);
+    assert_eq!(double_0(vecfp(FloatMode::Select, Float::Double)?, 1, 0xfff0 << 48 | 7, 9), 0xfff0 << 48 | 7);
+    assert_eq!(double_0(vecfp(FloatMode::Select, Float::Double)?, MINUS_0, 0xfff0 << 48 | 7, 9), 0);
     Ok(())
 }
 
 #[test]
 fn a_side_that_reads_as_0_is_plus_0() -> Test {
-    let call = |mode, value| -> Result<Call, FieldError> {
-        Ok(Call::vecfp(M2, Vecfp::new(mode, Float::Single, Vectors::One)?.enable_value(value)?))
-    };
+    use FloatMode::{AddX, AddY, Product, Select};
+    let call = |mode, enable| Vecfp::m2(mode, Float::Single, Vectors::One(enable)).map(Call::vecfp);
     // 0 * infinity, and sums that turn -0 into +0 and any NaN into the default one
-    assert_eq!(single_0(call(10, 4)?, 0x3f80_0000, 0x7f80_0000, 0), NAN);
-    assert_eq!(single_0(call(10, 5)?, 0xbf80_0000, 0x7f80_0000, 0), 0x8000_0000);
-    assert_eq!((single_0(call(11, 4)?, 7, 7, 0x8000_0000), single_0(call(12, 5)?, 7, 7, 0x8000_0000)), (0, 0));
-    assert_eq!((single_0(call(11, 4)?, 7, 7, 0xff80_0001), single_0(call(12, 5)?, 7, 7, 0x7f80_0001)), (NAN, NAN));
-    assert_eq!(single_0(call(11, 5)?, 7, 7, 0), 7);
+    assert_eq!(single_0(call(Product, Enable::ZeroX)?, 0x3f80_0000, 0x7f80_0000, 0), NAN);
+    assert_eq!(single_0(call(Product, Enable::ZeroY)?, 0xbf80_0000, 0x7f80_0000, 0), 0x8000_0000);
+    for (mode, enable) in [(AddX, Enable::ZeroX), (AddY, Enable::ZeroY)] {
+        assert_eq!(single_0(call(mode, enable)?, 7, 7, 0x8000_0000), 0);
+        assert_eq!(single_0(call(mode, enable)?, 7, 7, 0xff80_0001), NAN);
+        assert_eq!(single_0(call(mode, enable)?, 7, 7, 0x7f80_0001), NAN);
+    }
+    assert_eq!(single_0(call(AddX, Enable::ZeroY)?, 7, 7, 0), 7);
     // an output that is forced to 0 is +0, whatever it would be
-    for mode in [4, 10, 11, 12] {
-        assert_eq!(single_0(call(mode, 3)?, NAN, NAN, NAN), 0);
-        let several = Vecfp::new(mode, Float::Double, Vectors::Two)?.broadcast_mode(1)?;
-        assert_eq!(double_0(Call::vecfp(M2, several), NAN_64, NAN_64, NAN_64), 0);
+    for mode in [Select, Product, AddX, AddY] {
+        assert_eq!(single_0(call(mode, Enable::ZeroOutput)?, NAN, NAN, NAN), 0);
+        let several = Vecfp::m2(mode, Float::Double, Vectors::Two(Broadcast::ZeroOutput))?;
+        assert_eq!(double_0(Call::vecfp(several), NAN_64, NAN_64, NAN_64), 0);
     }
     Ok(())
 }
@@ -578,15 +604,27 @@ fn fms64_lanes_go_to_their_places() -> Test {
     assert_eq!(set(&ends(matrix.skip_y(true).vector(true))), [(29, 3, -0.5)]);
     assert_eq!(set(&ends(matrix.skip_x(true).vector(true))), [(29, 6, -0.25)]);
     // odd X lanes and the last 2 of Y; a vector has X's alone
-    let masked = matrix.skip_y(true).x_enable_value(1)?.y_enable_mode(3)?.y_enable_value(2)?;
+    let masked = matrix.skip_y(true).x_enable(SideEnable::Odd)?.y_enable(SideEnable::Last(2))?;
     assert_eq!(set(&ends(masked)), [(53, 3, -0.5), (61, 3, -0.5)]);
     assert_eq!(stepped(&start, Call::fms64(M1, masked)).1, Answer::Done { bytes: 4 * 2 * 8 });
     assert_eq!(stepped(&start, Call::fms64(M1, masked.vector(true))).1, Answer::Done { bytes: 4 * 8 });
     // there is no lane 8, and the first 8 and more are all
-    for (mode, value, lanes) in [(1, 7, 1), (1, 8, 0), (1, 31, 0), (2, 7, 7), (2, 8, 8), (2, 31, 8), (3, 9, 8), (3, 0, 8), (0, 3, 0)] {
-        let fields = Fms64::new().skip_y(true).vector(true).x_enable_mode(mode)?.x_enable_value(value)?;
-        assert_eq!(stepped(&start, Call::fms64(M2, fields)).1, Answer::Done { bytes: 8 * lanes }, "{mode} {value}");
+    let fields = Fms64::new().skip_y(true).vector(true);
+    for (enable, lanes) in [
+        (SideEnable::Lane(7), 1),
+        (SideEnable::Lane(8), 0),
+        (SideEnable::Lane(31), 0),
+        (SideEnable::First(7), 7),
+        (SideEnable::First(8), 8),
+        (SideEnable::First(31), 8),
+        (SideEnable::Last(9), 8),
+        (SideEnable::Last(0), 8),
+    ] {
+        assert_eq!(stepped(&start, Call::fms64(M2, fields.x_enable(enable)?)).1, Answer::Done { bytes: 8 * lanes }, "{enable:?}");
     }
+    // the values that have no name enable none
+    let unnamed = with_field(Instruction::Fms64, M2, fields.operand(), "x_enable_value", 3)?;
+    assert_eq!(stepped(&start, Call::new(11, 2, unnamed)).1, Answer::Done { bytes: 0 });
     Ok(())
 }
 
@@ -594,33 +632,38 @@ fn fms64_lanes_go_to_their_places() -> Test {
 fn vecfp_lanes_go_to_their_places() -> Test {
     let mut start = State::new();
     (0..8).for_each(|n| start.set_f32(Register::X(n), 9, n as f32 + 1.0));
-    let ends = |fields| stepped(&start, Call::vecfp(M2, fields));
+    let ends = |fields| stepped(&start, Call::vecfp(fields));
     let rows = |state: &State| -> Vec<(usize, f32)> {
         (0..64).map(|row| (row, state.f32_lane(Register::Z(row), 9))).filter(|lane| lane.1 != 0.0).collect()
     };
-    let (after, answer) = ends(Vecfp::new(11, Float::Single, Vectors::Four)?.z_row(5)?.x_offset(384)?);
+    let (after, answer) = ends(Vecfp::m2(FloatMode::AddX, Float::Single, Vectors::Four(Broadcast::Consecutive))?.z_row(5)?.x_offset(384)?);
     assert_eq!((rows(&after), answer), (vec![(5, 7.0), (21, 8.0), (37, 1.0), (53, 2.0)], Answer::Done { bytes: 256 }));
-    let (after, answer) = ends(Vecfp::new(11, Float::Single, Vectors::Two)?.z_row(31)?.broadcast_mode(2)?);
+    let (after, answer) = ends(Vecfp::m2(FloatMode::AddX, Float::Single, Vectors::Two(Broadcast::SameX))?.z_row(31)?);
     assert_eq!((rows(&after), answer), (vec![(31, 1.0), (63, 1.0)], Answer::Done { bytes: 128 }));
     // lane 0 of X for all lanes
     start.set_f64(X, 0, 1.5);
-    let (after, _) = stepped(&start, Call::vecfp(M2, Vecfp::new(11, Float::Double, Vectors::Two)?.broadcast_mode(6)?));
+    let (after, _) = stepped(&start, Call::vecfp(Vecfp::m2(FloatMode::AddX, Float::Double, Vectors::Two(Broadcast::Lane0OfX))?));
     assert!((0..8).all(|lane| after.f64_lane(Register::Z(32), lane) == 1.5));
     // a lane of Y for all lanes, modulo the lanes of its width; M1 does one vector
     start.set_f64(Y, 1, 2.5);
     for (value, sum) in [(1, 2.5), (9, 2.5), (17, 2.5), (0, 0.0)] {
-        let call = Call::vecfp(M2, Vecfp::new(12, Float::Double, Vectors::One)?.enable_mode(1)?.enable_value(value)?);
+        let call = Call::vecfp(Vecfp::m2(FloatMode::AddY, Float::Double, Vectors::One(Enable::BroadcastY(value)))?);
         assert_eq!(stepped(&start, call).0.f64_lane(Z, 5), sum, "{value}");
     }
-    let several = Vecfp::new(4, Float::Single, Vectors::Four)?;
-    assert_eq!(stepped(&start, Call::vecfp(M1, several)).1, Answer::Done { bytes: 64 });
+    let several = Call::vecfp(Vecfp::m2(FloatMode::Select, Float::Single, Vectors::Four(Broadcast::Consecutive))?);
+    assert_eq!(stepped(&start, Call { generation: 1, ..several }).1, Answer::Done { bytes: 64 });
     Ok(())
 }
 
 #[test]
 fn vecfp_masks_have_their_own_lane_count() -> Test {
     for (format, bytes, lanes) in [(Float::Single, 4, 16), (Float::Double, 8, 8)] {
-        let fields = Vecfp::new(4, format, Vectors::One)?;
+        let masked = |mode, value| -> Result<Call, FieldError> {
+            let operand = Vecfp::m1(FloatMode::Select, format, Enable::All)?.operand();
+            let operand = with_field(Instruction::Vecfp, M1, operand, "enable_mode", mode)?;
+            Ok(Call::new(19, 1, with_field(Instruction::Vecfp, M1, operand, "enable_value", value)?))
+        };
+        // those that have no name too
         for (mode, value, enabled) in [
             (0, 0, lanes),
             (0, 1, lanes / 2),
@@ -640,7 +683,7 @@ fn vecfp_masks_have_their_own_lane_count() -> Test {
             (6, 1, 0),
             (7, 0, 0),
         ] {
-            let call = Call::vecfp(M1, fields.enable_mode(mode)?.enable_value(value)?);
+            let call = masked(mode, value)?;
             let done = stepped(&State::new(), call).1;
             assert_eq!(done, Answer::Done { bytes: bytes * enabled }, "{mode} {value}");
             // bit 37 is none of the value's
@@ -720,9 +763,8 @@ fn a_trace_of_floats() -> Test {
     start.set_f32(X, 0, 1.5);
     start.set_f32(Y, 0, 0.25);
     let mut trace = Trace::new(start);
-    let product = Vecfp::new(10, Float::Single, Vectors::One)?.enable_mode(2)?.enable_value(1)?;
-    trace.push(Call::vecfp(M2, product).try_into()?)?;
-    trace.push(Call::vecfp(M1, product).try_into()?)?;
+    trace.push(Call::vecfp(Vecfp::m2(FloatMode::Product, Float::Single, Vectors::One(Enable::First(1)))?).try_into()?)?;
+    trace.push(Call::vecfp(Vecfp::m1(FloatMode::Product, Float::Single, Enable::First(1))?).try_into()?)?;
     trace.push(Call::fms64(M1, Fms64::new().vector(true).z_row(1)?).try_into()?)?;
     trace.push(Call::fms64(M1, Fms64::new().vector(true).z_row(1)?.skip_x(true).skip_y(true).skip_z(true)).try_into()?)?;
     // 0.375 is 3ec00000, and -0 is written to row 1

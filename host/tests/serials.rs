@@ -1,6 +1,6 @@
 //! The count of steps taken and the serials, on the proved unit and on the reference: the order of the table, what is counted, and retries.
 use amx::{
-    Answer, Call, Float, Generation::M1, Generation::M2, Mac16, REGISTER_BYTES, Reason, Refusal, Register, STATE_LENGTH, State, Vecfp,
+    Answer, Call, Enable, Float, FloatMode, Generation::M1, Mac16, REGISTER_BYTES, Reason, Refusal, Register, STATE_LENGTH, State, Vecfp,
     Vectors, Width, normal, reference, run, step, step_bytes,
 };
 
@@ -152,7 +152,7 @@ fn a_call_that_is_sent_again_adds_once() {
 
 #[test]
 fn a_float_sum_that_is_sent_again_adds_once() {
-    let sum = Call::vecfp(M2, Vecfp::new(11, Float::Double, Vectors::One).unwrap());
+    let sum = Call::vecfp(Vecfp::m2(FloatMode::AddX, Float::Double, Vectors::One(Enable::All)).unwrap());
     let mut state = State::new();
     state.set_f64(Register::X(0), 3, 0.1);
     for (serial, total) in [(0, 0.1), (1, 0.2), (2, 0.300_000_000_000_000_04)] {

@@ -1,9 +1,14 @@
 //! The proved unit's speed against the reference's, in one run. Ratios are of medians of interleaved runs; below 1 the proved unit is faster.
-use amx::{Answer, Call, FieldError, Float, Fms64, Generation::M2, IndexBits, Mac16, Register, Side, State, Vecfp, Vecint, Vectors};
-use amx::{random::Random, reference, step};
+use amx::{
+    AluMode, Answer, Broadcast, Call, Enable, FieldError, Float, FloatMode, Fms64, Generation::M2, IndexBits, LaneWidths, Mac16, Reduction,
+    ReductionWidths, Register, Side, State, Vecfp, Vecint, Vectors, random::Random, reference, step,
+};
 use std::{hint::black_box, time::Instant};
 
 const RUNS: usize = 31;
+
+/// One vector, with all its lanes.
+const ONE: Vectors = Vectors::One(Enable::All);
 
 /// The host's number of a refusal is at least this; a step whose answer is below it raised the count.
 const REFUSED: u64 = 131_072;
@@ -71,29 +76,32 @@ fn main() -> Result<(), FieldError> {
     let start = random.state();
     let mac16 = |fields| Call::mac16(M2, fields);
     let vecint = |mode, widths, vectors| -> Result<Call, FieldError> {
-        let fields = Vecint::new(mode, vectors)?.lane_widths(widths)?.shift(3)?;
-        let fields =
-            if mode == 4 { fields.z_signed(true)?.rounding(true)?.saturate(true)? } else { fields.x_signed(true)?.y_signed(true)? };
-        Ok(Call::vecint(M2, fields))
+        Ok(Call::vecint(Vecint::m2(mode, vectors)?.lane_widths(widths).shift(3)?.x_signed(true).y_signed(true)))
     };
     form("mac16, matrix 16", &start, mac16(Mac16::new()), 300);
     form("mac16, matrix 32", &start, mac16(Mac16::new().z_i32(true)), 300);
     form("mac16, vector", &start, mac16(Mac16::new().vector(true)), 4_000);
-    form("vecint, mode 0, widths 0 (16 16 16)", &start, vecint(0, 0, Vectors::One)?, 4_000);
-    form("vecint, mode 0, widths 3 (16 16 32)", &start, vecint(0, 3, Vectors::One)?, 4_000);
-    form("vecint, mode 0, widths 10 (8 8 32)", &start, vecint(0, 10, Vectors::One)?, 4_000);
-    form("vecint, mode 0, widths 11 (8 8 16)", &start, vecint(0, 11, Vectors::One)?, 4_000);
-    form("vecint, mode 0, four vectors", &start, vecint(0, 0, Vectors::Four)?, 2_000);
-    form("vecint, mode 4, widths 3 (32 to 16)", &start, vecint(4, 3, Vectors::One)?, 4_000);
-    form("vecint, mode 5", &start, vecint(5, 0, Vectors::One)?, 4_000);
+    for (name, widths) in [
+        ("widths 0 (16 16 16)", LaneWidths::X16Y16Z16),
+        ("widths 3 (16 16 32)", LaneWidths::X16Y16Z32),
+        ("widths 10 (8 8 32)", LaneWidths::X8Y8Z32),
+        ("widths 11 (8 8 16)", LaneWidths::X8Y8Z16),
+    ] {
+        form(&format!("vecint, mode 0, {name}"), &start, vecint(AluMode::AddProduct, widths, ONE)?, 4_000);
+    }
+    let four = Vectors::Four(Broadcast::Consecutive);
+    form("vecint, mode 0, four vectors", &start, vecint(AluMode::AddProduct, LaneWidths::X16Y16Z16, four)?, 2_000);
+    let reduction = Reduction::m2(ONE)?.lane_widths(ReductionWidths::Z32To16).shift(3)?.z_signed(true).rounding(true).saturate(true);
+    form("vecint, mode 4, widths 3 (32 to 16)", &start, Call::reduction(reduction), 4_000);
+    form("vecint, mode 5", &start, vecint(AluMode::AddRoundedProduct, LaneWidths::X16Y16Z16, ONE)?, 4_000);
     let mixed: Vec<Call> = (0..4_000).map(|_| random.integer_call()).collect();
     measure("mac16, vecint, 4,000 random calls", &start, &mixed);
     let works = |&call: &Call| matches!(step(&mut State::new(), call, 0), Answer::Done { bytes: 1.. });
     let records: Vec<Call> = std::iter::repeat_with(|| random.integer_call()).filter(works).take(2_048).collect();
     measure("a whole trace, 2,048 done steps", &start, &records);
-    let indexed = Vecint::indexed(Side::X, IndexBits::Four, 3, Vectors::One)?.shift(3)?.x_signed(true)?.y_signed(true)?;
-    form("vecint, indexed X, widths 0", &start, Call::vecint(M2, indexed), 4_000);
-    form("vecint, indexed X, widths 10", &start, Call::vecint(M2, indexed.lane_widths(10)?), 4_000);
+    let indexed = Vecint::m2_indexed(Side::X, IndexBits::Four, 3, ONE)?.shift(3)?.x_signed(true).y_signed(true);
+    form("vecint, indexed X, widths 0", &start, Call::vecint(indexed), 4_000);
+    form("vecint, indexed X, widths 10", &start, Call::vecint(indexed.lane_widths(LaneWidths::X8Y8Z32)), 4_000);
     let is_indexed = |call: &Call| call.instruction == 18 && call.operand >> 53 & 1 == 1;
     let loads = std::iter::repeat_with(|| random.integer_call()).filter(|call| is_indexed(call) && works(call));
     measure("vecint, 2,048 done indexed steps", &start, &loads.take(2_048).collect::<Vec<_>>());
@@ -109,13 +117,16 @@ fn floats(random: &mut Random) -> Result<(), FieldError> {
         singles.set_f32(register, lane, number);
         doubles.set_f64(register, lane / 2, number.into());
     }
-    for (mode, operation) in [(4, "x <= 0 ? 0 : y"), (10, "x*y"), (11, "z + x"), (12, "z + y")] {
+    for (mode, operation) in
+        [(FloatMode::Select, "x <= 0 ? 0 : y"), (FloatMode::Product, "x*y"), (FloatMode::AddX, "z + x"), (FloatMode::AddY, "z + y")]
+    {
         for (name, format, start) in [("f32", Float::Single, &singles), ("f64", Float::Double, &doubles)] {
-            let call = Call::vecfp(M2, Vecfp::new(mode, format, Vectors::One)?);
-            form(&format!("vecfp {name}, mode {mode} ({operation})"), start, call, 4_000);
+            let call = Call::vecfp(Vecfp::m2(mode, format, ONE)?);
+            form(&format!("vecfp {name}, mode {} ({operation})", mode as u64), start, call, 4_000);
         }
     }
-    form("vecfp f32, mode 11, four vectors", &singles, Call::vecfp(M2, Vecfp::new(11, Float::Single, Vectors::Four)?), 2_000);
+    let four = Vecfp::m2(FloatMode::AddX, Float::Single, Vectors::Four(Broadcast::Consecutive))?;
+    form("vecfp f32, mode 11, four vectors", &singles, Call::vecfp(four), 2_000);
     for (name, fields) in [("z - x", Fms64::new().skip_y(true)), ("-y", Fms64::new().skip_x(true).skip_z(true))] {
         form(&format!("fms64, vector, {name}"), &doubles, Call::fms64(M2, fields.vector(true)), 4_000);
         form(&format!("fms64, matrix, {name}"), &doubles, Call::fms64(M2, fields), 1_000);
