@@ -1,7 +1,7 @@
 use crate::{Answer, Fms64, Mac16, NotDone, Reduction, State, Vecfp, Vecint, unit};
 
-/// A call of the step. Any numbers may stand here: the step answers for all of them. Those that are built of fields have numbers that the
-/// unit covers; [`new`](Self::new) takes any.
+/// A call of the step. Any numbers may stand here: the step answers for all of them. A call that is made of fields has no reserved ones;
+/// [`new`](Self::new) takes any.
 #[must_use = "a call does nothing before it is stepped"]
 #[derive(Clone, Copy, Debug, PartialEq, Eq, Hash)]
 pub struct Call {

@@ -17,7 +17,7 @@ use crate::Generation;
 /// assert_eq!(fields.x_offset(512).unwrap_err().to_string(), "x_offset (bits 10..18) is 0 to 511, not 512");
 /// # Ok::<(), amx::FieldError>(())
 /// ```
-#[must_use = "a builder hands back the operand, and changes nothing"]
+#[must_use = "a setter hands back a changed copy, and a copy that is dropped sets nothing"]
 #[derive(Clone, Copy, Debug, Default, PartialEq, Eq, Hash)]
 pub struct Mac16 {
     operand: u64,
@@ -40,7 +40,7 @@ pub struct Mac16 {
 /// assert_eq!(step(&mut state, both, 1), Answer::Refused(Refusal::NotCovered));
 /// # Ok::<(), amx::FieldError>(())
 /// ```
-#[must_use = "a builder hands back the operand, and changes nothing"]
+#[must_use = "a setter hands back a changed copy, and a copy that is dropped sets nothing"]
 #[derive(Clone, Copy, Debug, Default, PartialEq, Eq, Hash)]
 pub struct Fms64 {
     operand: u64,
@@ -76,7 +76,7 @@ pub struct Fms64 {
 /// let rounding = Vecint::m1(AluMode::AddProduct, Enable::All)?.rounding(true); // a Reduction does
 /// # Ok::<(), amx::FieldError>(())
 /// ```
-#[must_use = "a builder hands back the operand, and changes nothing"]
+#[must_use = "a setter hands back a changed copy, and a copy that is dropped sets nothing"]
 #[derive(Clone, Copy, Debug, PartialEq, Eq, Hash)]
 pub struct Vecint {
     generation: Generation,
@@ -110,7 +110,7 @@ pub struct Vecint {
 ///
 /// Of the enables and broadcasts that say what is read or written, those that write 0 have their effect here. The others read X or Y
 /// otherwise, and only enable all lanes.
-#[must_use = "a builder hands back the operand, and changes nothing"]
+#[must_use = "a setter hands back a changed copy, and a copy that is dropped sets nothing"]
 #[derive(Clone, Copy, Debug, PartialEq, Eq, Hash)]
 pub struct Reduction {
     generation: Generation,
@@ -134,7 +134,7 @@ pub struct Reduction {
 /// assert_eq!(error.to_string(), "enable_value (bits 32..36) is 0 to 31, not 32");
 /// # Ok::<(), amx::FieldError>(())
 /// ```
-#[must_use = "a builder hands back the operand, and changes nothing"]
+#[must_use = "a setter hands back a changed copy, and a copy that is dropped sets nothing"]
 #[derive(Clone, Copy, Debug, PartialEq, Eq, Hash)]
 pub struct Vecfp {
     generation: Generation,
