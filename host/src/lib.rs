@@ -58,24 +58,29 @@
 mod answer;
 mod call;
 mod explain;
+mod fault;
 mod operand;
 pub mod random;
 pub mod reference;
 pub mod rounding;
+mod run;
 mod state;
 mod stream;
 pub mod text;
 mod trace;
 mod unit;
+pub mod words;
 
 pub use answer::{Answer, NotDone, Reason, Refusal};
 pub use call::{Call, Generation, Instruction, checkpoint_bytes, normal, run, step, step_bytes};
 pub use explain::{Explanation, explain, lane_grid};
+pub use fault::{FileFault, FileRefusal, TableField};
 pub use operand::{
     AluMode, Broadcast, Enable, Field, FieldError, Float, FloatMode, Fms64, IndexBits, LaneWidths, Mac16, Reduction, ReductionWidths, Side,
     SideEnable, Vecfp, Vecint, Vectors, When, fields, with_field,
 };
+pub use run::Run;
 pub use state::{REGISTER_BYTES, Register, STATE_LENGTH, State, Width};
 pub use stream::{ReadError, TraceReader, TraceWriter, WriteError, print_trace, write_run};
-pub use trace::{CHECKPOINT_LENGTH, Checkpoint, FileRefusal, NoCheckpoint, NoRecord, Record, Trace, TraceFull, TraceHeader};
+pub use trace::{CHECKPOINT_LENGTH, Checkpoint, NoCheckpoint, NoRecord, Record, Trace, TraceFull, TraceHeader};
 pub use unit::{PROVED, UNIT_NOTE};

@@ -182,6 +182,15 @@ impl State {
         &mut self.0[register.start()..][..64]
     }
 
+    /// The 64 bytes of a register as hex digits, its first byte first.
+    ///
+    /// # Panics
+    ///
+    /// Where there is no such register, as a slice does.
+    pub fn hex_row(&self, register: Register) -> String {
+        self.row(register).iter().map(|byte| format!("{byte:02x}")).collect()
+    }
+
     /// A lane as an unsigned number.
     ///
     /// # Panics

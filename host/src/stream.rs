@@ -1,8 +1,10 @@
 //! Trace files as streams: record after record, whatever their length.
 use crate::{
-    Checkpoint, FileRefusal, NoCheckpoint, Record, Register, State, Trace, TraceFull, TraceHeader,
+    Checkpoint, FileFault, NoCheckpoint, Record, Register, Run, State, Trace, TraceFull, TraceHeader,
     call::step_due,
-    trace::{RECORD, bytes_of_checkpoint, bytes_of_record, checkpoint_from, record_from, table_length, table_of},
+    trace::{
+        CHECKPOINT_LENGTH, RECORD, bytes_of_checkpoint, bytes_of_record, checkpoint_from, record_at, record_from, table_length, table_of,
+    },
 };
 use std::{
     fmt,
@@ -20,7 +22,7 @@ const BUFFER: usize = 2_048 * RECORD;
 /// checked whole first, so it is read twice.
 ///
 /// ```
-/// use amx::{FileRefusal, ReadError, Record, State, TraceReader, TraceWriter};
+/// use amx::{FileFault, ReadError, Record, State, TraceReader, TraceWriter};
 /// let record = Record { instruction: 14, generation: 1, operand: 1 << 63 };
 /// let mut writer = TraceWriter::new(Vec::new(), &State::new(), 2)?;
 /// writer.push(record)?;
@@ -33,7 +35,7 @@ const BUFFER: usize = 2_048 * RECORD;
 /// // the last byte is missing
 /// let mut reader = TraceReader::new(&file[..file.len() - 1])?;
 /// assert_eq!(reader.next().transpose()?, Some(record));
-/// assert!(matches!(reader.next(), Some(Err(ReadError::Refused(FileRefusal::Table)))));
+/// assert!(matches!(reader.next(), Some(Err(ReadError::Refused(FileFault::Cut { bytes: 5_179, told: 5_180 })))));
 /// assert!(reader.next().is_none());
 /// # Ok::<(), Box<dyn std::error::Error>>(())
 /// ```
@@ -75,7 +77,7 @@ pub struct TraceWriter<W> {
 #[derive(Debug)]
 pub enum ReadError {
     /// The file is no trace.
-    Refused(FileRefusal),
+    Refused(FileFault),
     /// It has three sections, and the input cannot be read twice.
     Once,
     /// The input cannot be read; or what is made of it cannot be written.
@@ -109,10 +111,18 @@ fn fill(input: &mut impl Read, bytes: &mut [u8]) -> io::Result<usize> {
     Ok(filled)
 }
 
-/// As many bytes: a file that has fewer has not its table's length.
-fn read_all<const N: usize>(input: &mut impl Read) -> Result<[u8; N], ReadError> {
+/// The bytes of a file, as its table tells them.
+fn told(records: usize, sections: usize) -> u64 {
+    record_at(records, sections) + if sections == 3 { CHECKPOINT_LENGTH as u64 } else { 0 }
+}
+
+/// As many bytes, which stand at a place of the file: one that has fewer has not its table's length.
+fn read_all<const N: usize>(input: &mut impl Read, at: u64, told: u64) -> Result<[u8; N], ReadError> {
     let mut bytes = [0; N];
-    if fill(input, &mut bytes)? < N { Err(FileRefusal::Table.into()) } else { Ok(bytes) }
+    match fill(input, &mut bytes)? {
+        read if read < N => Err(FileFault::Cut { bytes: at + read as u64, told }.into()),
+        _ => Ok(bytes),
+    }
 }
 
 /// How many sections and records a file has, by its table.
@@ -124,26 +134,25 @@ fn read_table(input: &mut impl Read) -> Result<(usize, usize), ReadError> {
         length += fill(input, &mut table[length..])?;
     }
     if length < table_length(sections) {
-        return Err(FileRefusal::TooShort.into());
+        return Err(FileFault::Short { bytes: length as u64, table: table_length(sections) as u64 }.into());
     }
-    let records = u32::from_le_bytes([table[24], table[25], table[26], table[27]]) as usize / RECORD;
-    if records > Trace::MAX_RECORDS || table[..length] != table_of(records, sections) {
-        return Err(FileRefusal::Table.into());
-    }
-    Ok((sections, records))
+    Ok((sections, FileFault::of_table(&table, sections)?))
 }
 
 /// The checkpoint behind the records, after all of the file has been checked.
 fn read_checkpoint(input: &mut impl Read, records: usize) -> Result<Checkpoint, ReadError> {
-    let mut padded = true;
-    for _ in 0..records {
-        padded &= record_from(&read_all(input)?).is_some();
+    let (told, mut padding) = (told(records, 3), None);
+    for record in 0..records {
+        let bytes = read_all(input, record_at(record, 3), told)?;
+        padding = padding.or_else(|| FileFault::of_padding(&bytes, record, 3));
     }
-    let checkpoint = checkpoint_from(&read_all(input)?);
-    if fill(input, &mut [0])? > 0 || checkpoint.consumed > records {
-        return Err(FileRefusal::Table.into());
+    let checkpoint = checkpoint_from(&read_all(input, record_at(records, 3), told)?);
+    if fill(input, &mut [0])? > 0 {
+        return Err(FileFault::Longer { told }.into());
     }
-    if padded { Ok(checkpoint) } else { Err(FileRefusal::Padding.into()) }
+    let consumed = checkpoint.consumed;
+    let fault = if consumed > records { Some(FileFault::Consumed { consumed, records }) } else { padding };
+    fault.map_or(Ok(checkpoint), |fault| Err(fault.into()))
 }
 
 impl<R: Read> TraceReader<R> {
@@ -152,13 +161,13 @@ impl<R: Read> TraceReader<R> {
         let mut input = BufReader::with_capacity(BUFFER, input);
         match read_table(&mut input)? {
             (3, _) => Err(ReadError::Once),
-            (_, records) => Self::begin(input, records),
+            (sections, records) => Self::begin(input, sections, records),
         }
     }
 
     /// Reads the starting state.
-    fn begin(mut input: BufReader<R>, records: usize) -> Result<Self, ReadError> {
-        let start = State::from_registers(read_all(&mut input)?);
+    fn begin(mut input: BufReader<R>, sections: usize, records: usize) -> Result<Self, ReadError> {
+        let start = State::from_registers(read_all(&mut input, table_length(sections) as u64, told(records, sections))?);
         Ok(TraceReader { input, header: TraceHeader { start, checkpoint: None, records }, given: 0, ended: false })
     }
 
@@ -174,13 +183,18 @@ impl<R: Read> TraceReader<R> {
 
     /// The next record; none at the end, where two sections must end too.
     fn record(&mut self) -> Result<Option<Record>, ReadError> {
-        if self.given < self.header.records {
-            let record = record_from(&read_all(&mut self.input)?).ok_or(FileRefusal::Padding)?;
+        let (given, sections) = (self.given, if self.header.checkpoint.is_some() { 3 } else { 2 });
+        let told = told(self.header.records, sections);
+        if given < self.header.records {
+            let bytes = read_all(&mut self.input, record_at(given, sections), told)?;
             self.given += 1;
-            return Ok(Some(record));
+            return match FileFault::of_padding(&bytes, given, sections) {
+                Some(fault) => Err(fault.into()),
+                None => Ok(Some(record_from(&bytes))),
+            };
         }
-        let more = self.header.checkpoint.is_none() && fill(&mut self.input, &mut [0])? > 0;
-        if more { Err(FileRefusal::Table.into()) } else { Ok(None) }
+        let more = sections == 2 && fill(&mut self.input, &mut [0])? > 0;
+        if more { Err(FileFault::Longer { told }.into()) } else { Ok(None) }
     }
 }
 
@@ -189,7 +203,7 @@ impl<R: Read + Seek> TraceReader<R> {
     pub fn seekable(input: R) -> Result<Self, ReadError> {
         let mut input = BufReader::with_capacity(BUFFER, input);
         let (sections, records) = read_table(&mut input)?;
-        let mut reader = Self::begin(input, records)?;
+        let mut reader = Self::begin(input, sections, records)?;
         if sections == 3 {
             let at = reader.input.stream_position().map_err(|_| ReadError::Once)?;
             reader.header.checkpoint = Some(read_checkpoint(&mut reader.input, records)?);
@@ -335,19 +349,17 @@ pub fn write_run<E: From<io::Error>>(
     records: impl IntoIterator<Item = Result<Record, E>>,
     output: &mut impl Write,
 ) -> Result<State, E> {
-    let mut state = header.state().clone();
-    for (place, record) in records.into_iter().enumerate() {
-        let record = record?;
-        if place >= header.consumed() {
-            writeln!(output, "step {place} {}", step_due(&mut state, record.into()))?;
+    let mut run = Run::new(header);
+    for record in records {
+        if let Some((place, answer)) = run.take(record?) {
+            writeln!(output, "step {place} {answer}")?;
         }
     }
-    for row in (0..64).filter(|&row| state.row(Register::Z(row)) != header.start().row(Register::Z(row))) {
-        let digits: String = state.row(Register::Z(row)).iter().map(|byte| format!("{byte:02x}")).collect();
-        writeln!(output, "z {row} {digits}")?;
+    for row in run.changed_rows() {
+        writeln!(output, "z {row} {}", run.state().hex_row(Register::Z(row)))?;
     }
     writeln!(output, "steps {}", header.records())?;
-    Ok(state)
+    Ok(run.into_state())
 }
 
 /// Writes what the trace program prints for a file as it is read: the text of its run, or else the lines of the steps before what it is
@@ -374,17 +386,17 @@ pub fn print_trace<R: Read>(reader: Result<TraceReader<R>, ReadError>, output: &
     });
     match run {
         Ok(state) => Ok(Some(state)),
-        Err(ReadError::Refused(refusal)) => {
-            writeln!(output, "{refusal}")?;
+        Err(ReadError::Refused(fault)) => {
+            writeln!(output, "{fault}")?;
             Ok(None)
         }
         Err(error) => Err(error),
     }
 }
 
-impl From<FileRefusal> for ReadError {
-    fn from(refusal: FileRefusal) -> Self {
-        ReadError::Refused(refusal)
+impl From<FileFault> for ReadError {
+    fn from(fault: FileFault) -> Self {
+        ReadError::Refused(fault)
     }
 }
 
@@ -403,7 +415,7 @@ impl From<io::Error> for WriteError {
 impl fmt::Display for ReadError {
     fn fmt(&self, f: &mut fmt::Formatter) -> fmt::Result {
         match self {
-            ReadError::Refused(refusal) => refusal.fmt(f),
+            ReadError::Refused(fault) => fault.fmt(f),
             ReadError::Once => f.write_str("a trace of three sections is read twice, and this input can be read but once"),
             ReadError::Io(error) => error.fmt(f),
         }

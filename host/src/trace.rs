@@ -1,4 +1,6 @@
-use crate::{Answer, Call, REGISTER_BYTES, ReadError, STATE_LENGTH, State, TraceReader, TraceWriter, checkpoint_bytes, run, write_run};
+use crate::{
+    Answer, Call, FileFault, REGISTER_BYTES, ReadError, STATE_LENGTH, State, TraceReader, TraceWriter, checkpoint_bytes, run, write_run,
+};
 use std::{
     fmt,
     io::{self, Cursor},
@@ -65,17 +67,6 @@ pub struct Trace {
     /// Has as many records as there are.
     header: TraceHeader,
     records: Vec<Record>,
-}
-
-/// Why a file is no trace. The discriminant is the refusal's number.
-#[derive(Clone, Copy, Debug, PartialEq, Eq, Hash)]
-pub enum FileRefusal {
-    /// Shorter than its table: 28 bytes, or 40 with three sections.
-    TooShort = 5,
-    /// The table differs from a trace's, or the length from the table's; or more records are consumed than there are.
-    Table = 6,
-    /// A padding byte of a record is not 0.
-    Padding = 7,
 }
 
 /// A trace holds no more than 1,000,000 records.
@@ -246,21 +237,21 @@ impl Trace {
     /// are tested for the refusals in their order.
     ///
     /// ```
-    /// use amx::{FileRefusal, State, Trace};
+    /// use amx::{FileFault, FileRefusal, State, Trace};
     /// let mut file = Trace::new(State::new()).to_bytes();
-    /// assert_eq!(Trace::from_bytes(&file[..27]), Err(FileRefusal::TooShort));
+    /// assert_eq!(Trace::from_bytes(&file[..27]), Err(FileFault::Short { bytes: 27, table: 28 }));
     /// file[0] = 3;
-    /// assert_eq!(Trace::from_bytes(&file), Err(FileRefusal::Table));
-    /// assert_eq!(Trace::from_bytes(&file[..39]), Err(FileRefusal::TooShort));
+    /// assert_eq!(Trace::from_bytes(&file).unwrap_err().refusal(), FileRefusal::Table);
+    /// assert_eq!(Trace::from_bytes(&file[..39]), Err(FileFault::Short { bytes: 39, table: 40 }));
     /// ```
-    pub fn from_bytes(file: &[u8]) -> Result<Self, FileRefusal> {
+    pub fn from_bytes(file: &[u8]) -> Result<Self, FileFault> {
         let read = || {
             let mut reader = TraceReader::seekable(Cursor::new(file))?;
             let records = reader.by_ref().collect::<Result<_, _>>()?;
             Ok(Trace { header: reader.into_header(), records })
         };
         read().map_err(|error| match error {
-            ReadError::Refused(refusal) => refusal,
+            ReadError::Refused(fault) => fault,
             ReadError::Once | ReadError::Io(_) => unreachable!("bytes can be read, and twice"),
         })
     }
@@ -307,6 +298,11 @@ pub(crate) const fn table_length(sections: usize) -> usize {
     4 + 12 * sections
 }
 
+/// Where a record begins, in a file of so many sections.
+pub(crate) fn record_at(record: usize, sections: usize) -> u64 {
+    (table_length(sections) + REGISTER_BYTES + RECORD * record) as u64
+}
+
 /// The table of a trace of n records: the count of sections, then kind, zero, offset and length of each.
 pub(crate) fn table_of(n: usize, sections: usize) -> Vec<u8> {
     let lengths = [REGISTER_BYTES, RECORD * n, CHECKPOINT_LENGTH];
@@ -341,10 +337,10 @@ pub(crate) fn bytes_of_record(record: Record) -> [u8; RECORD] {
     bytes
 }
 
-/// A record whose padding is 0.
-pub(crate) fn record_from(bytes: &[u8; RECORD]) -> Option<Record> {
-    let [instruction, generation, 0, 0, 0, 0, 0, 0, operand @ ..] = *bytes else { return None };
-    Some(Record { instruction, generation, operand: u64::from_le_bytes(operand) })
+/// A record, whatever its padding.
+pub(crate) fn record_from(bytes: &[u8; RECORD]) -> Record {
+    let [instruction, generation, _, _, _, _, _, _, operand @ ..] = *bytes;
+    Record { instruction, generation, operand: u64::from_le_bytes(operand) }
 }
 
 impl From<Record> for Call {
@@ -361,20 +357,6 @@ impl TryFrom<Call> for Record {
             (Ok(instruction), Ok(generation)) => Ok(Record { instruction, generation, operand: call.operand }),
             _ => Err(NoRecord(call)),
         }
-    }
-}
-
-impl fmt::Display for FileRefusal {
-    fn fmt(&self, f: &mut fmt::Formatter) -> fmt::Result {
-        write!(f, "file refused {}", *self as u8)?;
-        if !f.alternate() {
-            return Ok(());
-        }
-        f.write_str(match self {
-            FileRefusal::TooShort => ": a trace has at least 28 bytes, or 40 where it has three sections",
-            FileRefusal::Table => ": table or length are not those of a trace, or more steps are consumed than there are",
-            FileRefusal::Padding => ": a record's padding is not 0",
-        })
     }
 }
 
@@ -399,7 +381,6 @@ impl fmt::Display for NoRecord {
     }
 }
 
-impl std::error::Error for FileRefusal {}
 impl std::error::Error for TraceFull {}
 impl std::error::Error for NoCheckpoint {}
 impl std::error::Error for NoRecord {}
@@ -407,6 +388,7 @@ impl std::error::Error for NoRecord {}
 #[cfg(test)]
 mod tests {
     use super::*;
+    use crate::FileRefusal;
 
     fn trace(n: usize) -> Trace {
         let mut trace = Trace::new(State::new());
@@ -416,6 +398,10 @@ mod tests {
 
     fn of(n: usize) -> Vec<u8> {
         trace(n).to_bytes()
+    }
+
+    fn refusal(file: &[u8]) -> Option<FileRefusal> {
+        Trace::from_bytes(file).err().map(FileFault::refusal)
     }
 
     #[test]
@@ -430,24 +416,24 @@ mod tests {
         assert_eq!(most.push(Record { instruction: 0, generation: 0, operand: 0 }), Err(TraceFull));
         longer.extend([0; 16]);
         longer[24..28].copy_from_slice(&(16u32 * 1_000_001).to_le_bytes());
-        assert_eq!(Trace::from_bytes(&longer).map(drop), Err(FileRefusal::Table));
+        assert_eq!(refusal(&longer), Some(FileRefusal::Table));
     }
 
     #[test]
     fn refusals_come_in_their_order() {
         let mut file = of(2);
         file[5_148 + 16 + 7] = 1;
-        assert_eq!(Trace::from_bytes(&file), Err(FileRefusal::Padding));
+        assert_eq!(refusal(&file), Some(FileRefusal::Padding));
         file[6] = 1;
-        assert_eq!(Trace::from_bytes(&file), Err(FileRefusal::Table));
-        assert_eq!(Trace::from_bytes(&file[..27]), Err(FileRefusal::TooShort));
+        assert_eq!(refusal(&file), Some(FileRefusal::Table));
+        assert_eq!(refusal(&file[..27]), Some(FileRefusal::TooShort));
         for length in [28, 5_147, 5_148, 5_164, 5_179] {
-            assert_eq!(Trace::from_bytes(&of(2)[..length]), Err(FileRefusal::Table));
+            assert_eq!(refusal(&of(2)[..length]), Some(FileRefusal::Table));
         }
         for at in 0..28 {
             let mut file = of(2);
             file[at] ^= 1;
-            assert_eq!(Trace::from_bytes(&file), Err(FileRefusal::Table), "byte {at}");
+            assert_eq!(refusal(&file), Some(FileRefusal::Table), "byte {at}");
         }
     }
 
@@ -489,27 +475,27 @@ mod tests {
         let damaged = |damage: &[(usize, u8)]| {
             let mut file = file.clone();
             damage.iter().for_each(|&(at, byte)| file[at] ^= byte);
-            Trace::from_bytes(&file).map(drop)
+            refusal(&file)
         };
         // padding of the record that is consumed and of the one that is not
         for at in [5_160 + 2, 5_160 + 16 + 7] {
-            assert_eq!(damaged(&[(at, 1)]), Err(FileRefusal::Padding));
-            assert_eq!(damaged(&[(at, 1), (consumed, 1 ^ 3)]), Err(FileRefusal::Table));
+            assert_eq!(damaged(&[(at, 1)]), Some(FileRefusal::Padding));
+            assert_eq!(damaged(&[(at, 1), (consumed, 1 ^ 3)]), Some(FileRefusal::Table));
         }
         for byte in 0..4 {
-            assert_eq!(damaged(&[(consumed + byte, 0x80)]), Err(FileRefusal::Table));
+            assert_eq!(damaged(&[(consumed + byte, 0x80)]), Some(FileRefusal::Table));
         }
-        assert_eq!((damaged(&[(consumed, 1)]), damaged(&[(consumed, 1 ^ 2)])), (Ok(()), Ok(())));
+        assert_eq!((damaged(&[(consumed, 1)]), damaged(&[(consumed, 1 ^ 2)])), (None, None));
         for at in 0..40 {
-            assert_eq!(damaged(&[(at, 1)]), Err(FileRefusal::Table), "byte {at}");
+            assert_eq!(damaged(&[(at, 1)]), Some(FileRefusal::Table), "byte {at}");
         }
         for length in 0..file.len() {
-            let refusal = if length < 40 { FileRefusal::TooShort } else { FileRefusal::Table };
-            assert_eq!(Trace::from_bytes(&file[..length]), Err(refusal), "{length} bytes");
+            let expected = if length < 40 { FileRefusal::TooShort } else { FileRefusal::Table };
+            assert_eq!(refusal(&file[..length]), Some(expected), "{length} bytes");
         }
-        assert_eq!(Trace::from_bytes(&[&file[..], &[0]].concat()), Err(FileRefusal::Table));
+        assert_eq!(refusal(&[&file[..], &[0]].concat()), Some(FileRefusal::Table));
         // another count of sections in so few bytes
-        assert_eq!(Trace::from_bytes(&[&[4], &file[1..39]].concat()), Err(FileRefusal::Table));
+        assert_eq!(refusal(&[&[4], &file[1..39]].concat()), Some(FileRefusal::Table));
     }
 
     #[test]

@@ -53,18 +53,25 @@ fn fed(arguments: &[&str], bytes: &[u8], piece: usize) -> Output {
     })
 }
 
+/// What a command that ran says on standard output. `run` says on standard error what came of it, and no other says anything there.
 fn said(arguments: &[&str]) -> String {
     let output = amx(arguments);
     assert!(output.status.success(), "{arguments:?}: {}", String::from_utf8_lossy(&output.stderr));
-    assert!(output.stderr.is_empty());
+    assert_eq!(output.stderr.is_empty(), arguments[0] != "run", "{arguments:?}: {}", String::from_utf8_lossy(&output.stderr));
     String::from_utf8(output.stdout).unwrap()
 }
 
-/// An error: status 1, nothing on standard output, a message that has these words.
-fn refused(arguments: &[&str], words: &str) {
+/// The exit statuses that `amx --help` tells.
+const USAGE: i32 = 2;
+const FILE: i32 = 3;
+const REFUSED: i32 = 4;
+const TEXT: i32 = 5;
+
+/// An error: its status, nothing on standard output, a message that has these words.
+fn fails(status: i32, arguments: &[&str], words: &str) {
     let output = amx(arguments);
     let message = String::from_utf8(output.stderr).unwrap();
-    assert_eq!((output.status.code(), output.stdout.len()), (Some(1), 0), "{arguments:?}");
+    assert_eq!((output.status.code(), output.stdout.len()), (Some(status), 0), "{arguments:?}: {message}");
     assert!(message.starts_with("amx: ") && message.contains(words), "{arguments:?}: {message}");
 }
 
@@ -134,9 +141,9 @@ fn a_trace_is_cut_and_goes_on() {
     said(&["cut", name(&trace), "--after", "1", "-o", name(&rest)]);
     let apart = "x 0: 03\ny 0: 02\nmac16 m1 vector\ncheckpoint\ncount: 1\nx 0: 03\ny 0: 02\nz 0: 06\nvecint m1 reserved=1\n";
     assert_eq!(said(&["dis", name(&rest)]), apart);
-    // onto itself
-    said(&["cut", name(&trace), "--after", "2", "-o", name(&trace)]);
-    assert_eq!(said(&["run", name(&trace)]), sample_text()["step 0 done 64\nstep 1 no-op 1\n".len()..]);
+    // after all
+    said(&["cut", name(&trace), "--after", "2", "-o", name(&rest)]);
+    assert_eq!(said(&["run", name(&rest)]), sample_text()["step 0 done 64\nstep 1 no-op 1\n".len()..]);
     assert_eq!(room.names(), ["rest.amx", "sample.amx", "sample.txt"]);
 }
 
@@ -164,26 +171,27 @@ fn a_cut_that_cannot_be_made_writes_no_file() {
     let (trace, rest) = (room.0.join("sample.amx"), room.0.join("rest.amx"));
     said(&["asm", name(&text), "-o", name(&trace)]);
     let damaged = room.write("damaged", &fs::read(&trace).unwrap()[..5_000]);
-    let cut = |file: &Path, after: &str, words: &str| refused(&["cut", name(file), "--after", after, "-o", name(&rest)], words);
-    cut(&trace, "3", "sample.amx: 3 steps cannot be consumed, the trace has 2");
-    cut(&text, "18446744073709551615", "18446744073709551615 steps cannot be consumed, the trace has 2");
+    let cut =
+        |status, file: &Path, after: &str, words: &str| fails(status, &["cut", name(file), "--after", after, "-o", name(&rest)], words);
+    cut(USAGE, &trace, "3", "sample.amx: 3 steps cannot be consumed, the trace has 2");
+    cut(USAGE, &text, "18446744073709551615", "18446744073709551615 steps cannot be consumed, the trace has 2");
     for after in ["", "one", "-1", "1.5", "18446744073709551616"] {
-        cut(&trace, after, &format!("--after: expected a number of 64 bits (12, 0x1f or 0b101), not {after:?}"));
+        cut(USAGE, &trace, after, &format!("--after: expected a number of 64 bits (12, 0x1f or 0b101), not {after:?}"));
     }
-    cut(&damaged, "0", "damaged: file refused 6: table or length are not those of a trace");
-    cut(&room.0.join("absent"), "0", "absent: ");
-    cut(&room.write("wrong.txt", "mac16 m3"), "0", "wrong.txt, line 1: expected m1 or m2");
+    cut(REFUSED, &damaged, "0", "damaged: file refused 6: 5,000 bytes, the table says 5,180");
+    cut(FILE, &room.0.join("absent"), "0", "absent: ");
+    cut(TEXT, &room.write("wrong.txt", "mac16 m3"), "0", "wrong.txt, line 1: expected m1 or m2");
     assert_eq!(room.names(), ["damaged", "sample.amx", "sample.txt", "wrong.txt"]);
     said(&["cut", name(&trace), "--after", "1", "-o", name(&rest)]);
     let before = fs::read(&rest).unwrap();
-    cut(&rest, "1", "rest.amx: the trace has a checkpoint already");
-    cut(&trace, "3", "3 steps cannot be consumed");
+    fails(USAGE, &["cut", name(&rest), "--after", "1", "-o", name(&room.0.join("other"))], "rest.amx: the trace has a checkpoint already");
+    cut(USAGE, &trace, "3", "3 steps cannot be consumed");
     assert_eq!(fs::read(&rest).unwrap(), before);
-    refused(&["cut", name(&trace), "--after", "1", "-o", name(&room.0.join("none/rest"))], "none/rest: ");
+    fails(FILE, &["cut", name(&trace), "--after", "1", "-o", name(&room.0.join("none/rest"))], "none/rest: ");
     for words in
         [&["cut"][..], &["cut", "a"], &["cut", "a", "-o", "b"], &["cut", "a", "--after", "1"], &["cut", "a", "b", "--after", "1", "-o"]]
     {
-        refused(words, "expected cut FILE --after K -o TRACE, FILE a trace or a text");
+        fails(USAGE, words, "expected cut FILE --after K -o TRACE, FILE a trace or a text");
     }
 }
 
@@ -193,20 +201,20 @@ fn an_error_writes_no_file_and_leaves_the_old_one() {
     let wrong = room.write("wrong.txt", "x: 03\nmac16 m1 vector\nmac16 m1 shift=32\n");
     let trace = room.0.join("trace");
     let message = "wrong.txt, line 3: shift (bits 55..59) is 0 to 31, not 32";
-    refused(&["asm", name(&wrong), "-o", name(&trace)], message);
-    refused(&["run", name(&wrong)], message);
+    fails(TEXT, &["asm", name(&wrong), "-o", name(&trace)], message);
+    fails(TEXT, &["run", name(&wrong)], message);
     assert_eq!(room.names(), ["wrong.txt"]);
     fs::write(&trace, "old").unwrap();
-    refused(&["asm", name(&wrong), "-o", name(&trace)], message);
+    fails(TEXT, &["asm", name(&wrong), "-o", name(&trace)], message);
     assert_eq!(fs::read(&trace).unwrap(), b"old");
 
     let text = room.write("sample.txt", SAMPLE);
-    refused(&["asm", name(&text), "-o", name(&room.0.join("none/trace"))], "none/trace: ");
-    refused(&["asm", name(&text), "-o", name(&room.0)], "directory");
-    refused(&["asm", name(&text), "-o", ""], "expected the name of a file");
-    refused(&["asm", name(&room.0.join("absent")), "-o", name(&trace)], "absent: ");
+    fails(FILE, &["asm", name(&text), "-o", name(&room.0.join("none/trace"))], "none/trace: ");
+    fails(FILE, &["asm", name(&text), "-o", name(&room.0)], "directory");
+    fails(FILE, &["asm", name(&text), "-o", ""], "expected the name of a file");
+    fails(FILE, &["asm", name(&room.0.join("absent")), "-o", name(&trace)], "absent: ");
     let not_text = room.write("not.txt", [0xff, 0xfe]);
-    refused(&["asm", name(&not_text), "-o", name(&trace)], "expected a text in UTF-8");
+    fails(TEXT, &["asm", name(&not_text), "-o", name(&trace)], "expected a text in UTF-8");
     assert_eq!(room.names(), ["not.txt", "sample.txt", "trace", "wrong.txt"]);
 }
 
@@ -248,9 +256,9 @@ fn damaged_traces_are_refused_by_number() {
         (damaged(&cut, 5_162), "file refused 7"),
     ] {
         let file = room.write("trace", bytes);
-        refused(&["dis", name(&file)], line);
+        fails(REFUSED, &["dis", name(&file)], line);
         let output = amx(&["run", name(&file)]);
-        assert_eq!((output.status.code(), String::from_utf8(output.stdout).unwrap()), (Some(1), format!("{line}\n")));
+        assert_eq!((output.status.code(), String::from_utf8(output.stdout).unwrap()), (Some(REFUSED), format!("{line}\n")));
     }
 }
 
@@ -278,7 +286,7 @@ fn a_million_steps_are_assembled_run_cut_and_taken_apart() {
     assert_eq!(said(&["run", name(&rest)]), "step 999999 done 64\nsteps 1000000\n");
     // one more
     fs::write(&text_file, text + "mac16 m1\n").unwrap();
-    refused(&["asm", name(&text_file), "-o", name(&rest)], "text, line 1000002: a trace holds at most 1000000 steps");
+    fails(TEXT, &["asm", name(&text_file), "-o", name(&rest)], "text, line 1000002: a trace holds at most 1000000 steps");
     assert_eq!(room.names(), ["rest", "text", "trace"]);
 }
 
@@ -298,10 +306,14 @@ fn what_is_wrong_with_two_sections_comes_after_the_steps_before_it() {
         let file = room.write("damaged", bytes);
         let before: String = lines.split_inclusive('\n').take(steps).collect();
         let output = amx(&["run", name(&file)]);
-        assert_eq!((output.status.code(), output.stderr.len()), (Some(1), 0));
+        assert_eq!(output.status.code(), Some(REFUSED));
         assert!(String::from_utf8(output.stdout).unwrap() == format!("{before}file refused {refusal}\n"));
         // no file is left of a cut, wherever the damage is
-        refused(&["cut", name(&file), "--after", "1", "-o", name(&room.0.join("rest"))], &format!("damaged: file refused {refusal}: "));
+        fails(
+            REFUSED,
+            &["cut", name(&file), "--after", "1", "-o", name(&room.0.join("rest"))],
+            &format!("damaged: file refused {refusal}: "),
+        );
     }
     assert_eq!(room.names(), ["damaged", "text", "trace"]);
 }
@@ -316,19 +328,19 @@ fn a_pipe_that_hands_over_a_few_bytes_is_read() {
     for piece in [1, 3, 7, 5_000] {
         for bytes in [&file, text.as_bytes()] {
             let output = fed(&["run", "/dev/stdin"], bytes, piece);
-            assert_eq!((output.status.code(), output.stderr.len()), (Some(0), 0));
+            assert_eq!(output.status.code(), Some(0));
             assert!(output.stdout == whole.as_bytes(), "{piece} bytes at a time");
         }
         let output = fed(&["run", "/dev/stdin"], &file[..file.len() - 1], piece);
         let cut: String = lines.split_inclusive('\n').take(2_048).collect();
         assert!(output.stdout == format!("{cut}file refused 6\n").as_bytes(), "{piece} bytes at a time");
-        assert_eq!(output.status.code(), Some(1));
+        assert_eq!(output.status.code(), Some(REFUSED));
     }
-    // three sections are read twice
-    let output = fed(&["run", "/dev/stdin"], &trace.cut(3).unwrap().to_bytes(), 4_096);
-    let message = String::from_utf8(output.stderr).unwrap();
-    assert_eq!((output.status.code(), output.stdout.len()), (Some(1), 0));
-    assert_eq!(message, "amx: /dev/stdin: a trace of three sections is read twice, and this input can be read but once\n");
+    // three sections are read twice, and kept for it
+    let rest = trace.cut(3).unwrap();
+    let output = fed(&["run", "/dev/stdin"], &rest.to_bytes(), 4_096);
+    assert_eq!(output.status.code(), Some(0));
+    assert!(output.stdout == rest.text().as_bytes());
 }
 
 #[test]
@@ -365,11 +377,11 @@ fn an_operand_is_explained() {
         text.contains("no ignored bit is set\nnot covered here: x_shuffle\nanswer: refused 4: not covered are shuffles (but in "),
         "{text}"
     );
-    refused(&["explain", "15", "1", "0"], "refused 3: the instruction is not 11 (fms64), 14 (mac16), 18 (vecint) or 19 (vecfp)");
-    refused(&["explain", "14", "1"], "expected instruction, generation and operand after explain, not 2 words");
-    refused(&["explain"], "expected explain INSTRUCTION GENERATION OPERAND");
-    refused(&["explain", "14", "1", "1e3"], "expected a number of 64 bits (12, 0x1f or 0b101), not \"1e3\"");
-    refused(&["explain", "mac17", "m1"], "expected fms64, mac16, vecint, vecfp, raw or three numbers, not \"mac17\"");
+    fails(USAGE, &["explain", "15", "1", "0"], "refused 3: the instruction is not 11 (fms64), 14 (mac16), 18 (vecint) or 19 (vecfp)");
+    fails(USAGE, &["explain", "14", "1"], "expected explain INSTRUCTION GENERATION OPERAND, or a step as in a text: there are 2 numbers");
+    fails(USAGE, &["explain"], "expected explain INSTRUCTION GENERATION OPERAND");
+    fails(USAGE, &["explain", "14", "1", "1e3"], "expected a number of 64 bits (12, 0x1f or 0b101), not \"1e3\"");
+    fails(USAGE, &["explain", "mac17", "m1"], "not \"mac17\"");
 }
 
 #[test]
@@ -525,7 +537,7 @@ fn a_float_that_is_none_is_refused_by_its_line() {
         ("vecfp m1 broadcast_mode=1", "line 1: broadcast_mode (bits 32..34) is there only with several vectors (bit 31 set, on M2)"),
     ] {
         let file = room.write("wrong.txt", text);
-        refused(&["asm", name(&file), "-o", name(&trace)], &format!("wrong.txt, {message}"));
+        fails(TEXT, &["asm", name(&file), "-o", name(&trace)], &format!("wrong.txt, {message}"));
     }
     assert_eq!(room.names(), ["wrong.txt"]);
 }
@@ -609,9 +621,10 @@ fn help_says_all_of_it_and_wrong_words_are_refused() {
             }
         }
     }
-    refused(&[], "expected asm, dis, run, cut, explain or lanes");
-    refused(&["assemble"], "expected asm, dis, run, cut, explain or lanes, not \"assemble\"");
-    refused(&["asm", "text"], "expected asm TEXT -o TRACE");
-    refused(&["dis"], "expected dis TRACE");
-    refused(&["run"], "expected run FILE");
+    fails(USAGE, &[], "expected a command: asm, dis, run, cut, explain, lanes\n\namx: the proved AMX unit");
+    fails(USAGE, &["assemble"], "expected a command (asm, dis, run, cut, explain, lanes), not \"assemble\"; amx --help tells more");
+    fails(USAGE, &["asm", "text"], "expected asm TEXT -o TRACE: -o is missing");
+    fails(USAGE, &["dis"], "expected dis TRACE: there are 0 words");
+    fails(USAGE, &["run"], "expected run FILE [--strict] [--summary | --json]: there are 0 words");
+    fails(USAGE, &["run", "a", "--loud"], "there is no option --loud");
 }

@@ -2,8 +2,8 @@
 mod records;
 
 use amx::{
-    Checkpoint, FileRefusal, NoCheckpoint, ReadError, Record, Register, State, Trace, TraceReader, TraceWriter, Width, WriteError,
-    print_trace, reference,
+    Checkpoint, FileFault, FileRefusal, NoCheckpoint, ReadError, Record, Register, State, Trace, TraceReader, TraceWriter, Width,
+    WriteError, print_trace, reference,
 };
 use records::{RECORDS, start};
 use std::io::{self, Cursor, ErrorKind, Read, Seek, SeekFrom};
@@ -367,7 +367,7 @@ fn an_input_that_fails_is_no_refused_file() {
 fn three_sections_are_not_read_from_what_can_be_read_once() {
     let file = Made::new(5, Some(2)).file();
     assert!(matches!(TraceReader::new(&file[..]), Err(ReadError::Once)));
-    assert!(matches!(TraceReader::new(&file[..39]), Err(ReadError::Refused(FileRefusal::TooShort))));
+    assert!(matches!(TraceReader::new(&file[..39]), Err(ReadError::Refused(FileFault::Short { bytes: 39, table: 40 }))));
     assert_eq!(TraceReader::seekable(Cursor::new(&file)).unwrap().header().consumed(), 2);
 }
 
@@ -377,7 +377,7 @@ fn a_reader_gives_records_up_to_the_first_error_and_then_none() {
     for place in 0..RUN {
         assert_eq!(reader.next().unwrap().unwrap(), record(place));
     }
-    assert!(matches!(reader.next(), Some(Err(ReadError::Refused(FileRefusal::Padding)))));
+    assert!(matches!(reader.next(), Some(Err(ReadError::Refused(FileFault::Padding { record: RUN, byte: 2, .. })))));
     assert!(reader.next().is_none());
 }
 

@@ -185,7 +185,7 @@ fn refusal(file: &[u8]) -> Option<u8> {
         Some(refusal) => assert_eq!(text, format!("{refusal}\n")),
         None => assert!(!text.contains("file refused"), "{text}"),
     }
-    refusal.map(|refusal| refusal as u8)
+    refusal.map(|fault| fault.refusal() as u8)
 }
 
 #[test]

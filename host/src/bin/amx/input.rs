@@ -1,0 +1,209 @@
+//! Traces and texts, read once and step by step, whatever they come from.
+use crate::{
+    failure::Failure,
+    output::{Identity, create_new},
+    progress::Progress,
+};
+use amx::{
+    FileFault, ReadError, Record, TraceHeader, TraceReader,
+    text::{Assembler, TextError},
+};
+use std::{
+    env,
+    fs::{self, File},
+    io::{self, BufRead, BufReader, Cursor, IsTerminal, Read, Seek},
+    path::Path,
+    process,
+};
+
+/// The bytes of the smallest table: a byte 0 among the first so many tells a trace from a text.
+const TABLE: usize = 28;
+
+/// The most bytes of a line of a text, and of a text: an input that does not end is not read for ever.
+const MAX_LINE: usize = 65_536;
+const MAX_TEXT: u64 = 1 << 28;
+
+/// The bytes of the longest trace of three sections.
+const MAX_TRACE: u64 = 16_010_292;
+
+/// A file, or standard input as `-`, that is read from its first byte.
+pub struct Input {
+    name: String,
+    from: From,
+    /// The first bytes, as many as the smallest table has.
+    first: Vec<u8>,
+    identity: Option<Identity>,
+}
+
+enum From {
+    /// At its first byte.
+    File(File),
+    /// Behind the first bytes: a pipe, say.
+    Once(Box<dyn Read>),
+}
+
+/// The steps of a trace or of a text, one by one.
+pub struct Steps {
+    pub name: String,
+    pub header: TraceHeader,
+    pub identity: Option<Identity>,
+    records: Box<dyn Iterator<Item = Result<Record, Failure>>>,
+}
+
+impl Input {
+    pub fn open(name: &str) -> Result<Self, Failure> {
+        if name == "-" {
+            return Self::begin("standard input", Box::new(io::stdin()), None);
+        }
+        let failed = |error: io::Error| Failure::of_file(name, error);
+        let file = File::open(name).map_err(failed)?;
+        let identity = Identity::of(Path::new(name), &file.metadata().map_err(failed)?);
+        if identity.is_some() && identity == Identity::of_standard_output() {
+            return Err(Failure::Usage(format!("{name}: standard output goes to this file, which is read")));
+        }
+        let mut input = Self::begin(name, Box::new(file.try_clone().map_err(failed)?), identity)?;
+        if input.identity.is_some() {
+            (&file).rewind().map_err(failed)?;
+            input.from = From::File(file);
+        }
+        Ok(input)
+    }
+
+    fn begin(name: &str, mut from: Box<dyn Read>, identity: Option<Identity>) -> Result<Self, Failure> {
+        let mut first = Vec::new();
+        from.by_ref().take(TABLE as u64).read_to_end(&mut first).map_err(|error| Failure::of_file(name, error))?;
+        if first.is_empty() {
+            let nothing = FileFault::Short { bytes: 0, table: TABLE as u64 };
+            return Err(Failure::Refused(name.to_owned(), nothing));
+        }
+        Ok(Input { name: name.to_owned(), from: From::Once(from), first, identity })
+    }
+
+    fn is_trace(&self) -> bool {
+        self.first.contains(&0)
+    }
+
+    /// The steps of a trace or of a text.
+    pub fn steps(self) -> Result<Steps, Failure> {
+        if self.is_trace() { self.trace() } else { self.text() }
+    }
+
+    /// The steps of a trace. One of three sections is read twice.
+    pub fn trace(self) -> Result<Steps, Failure> {
+        let (name, identity) = (self.name, self.identity);
+        match self.from {
+            From::File(file) => Steps::of_trace(name, identity, TraceReader::seekable(file)),
+            From::Once(from) => {
+                let mut from = Cursor::new(self.first.clone()).chain(from);
+                if self.first.starts_with(&[3, 0, 0, 0]) {
+                    let file = keep(&mut from, MAX_TRACE).map_err(|error| Failure::of_file(&name, error))?;
+                    return Steps::of_trace(name, identity, TraceReader::seekable(file));
+                }
+                Steps::of_trace(name, identity, TraceReader::new(from))
+            }
+        }
+    }
+
+    /// The steps of a text, which is read twice: for its errors and the number of its steps, and then for the steps.
+    pub fn text(self) -> Result<Steps, Failure> {
+        let (name, identity, failed) = (self.name.clone(), self.identity.clone(), |error: io::Error| Failure::of_file(&self.name, error));
+        if self.is_trace() {
+            return Err(Failure::Usage(format!("{name}: this is no text: it has a byte 0, as a trace file has; amx dis prints its text")));
+        }
+        let file = match self.from {
+            From::File(file) => file,
+            From::Once(from) => keep(&mut Cursor::new(self.first).chain(from), MAX_TEXT).map_err(failed)?,
+        };
+        let mut lines = Lines::new(name.clone(), file.try_clone().map_err(failed)?);
+        for record in Progress::new(&mut lines, " steps read".to_owned(), io::stderr(), io::stderr().is_terminal()) {
+            record?;
+        }
+        let header = lines.assembler.into_header();
+        (&file).rewind().map_err(failed)?;
+        Ok(Steps { name: name.clone(), header, identity, records: Box::new(Lines::new(name, file)) })
+    }
+}
+
+impl Steps {
+    /// Those of a trace or of a text, by its name.
+    pub fn open(name: &str) -> Result<Self, Failure> {
+        Input::open(name)?.steps()
+    }
+
+    fn of_trace<R: Read + 'static>(
+        name: String,
+        identity: Option<Identity>,
+        reader: Result<TraceReader<R>, ReadError>,
+    ) -> Result<Self, Failure> {
+        let reader = reader.map_err(|error| Failure::of_reading(&name, error))?;
+        let (header, file) = (reader.header().clone(), name.clone());
+        let records = reader.map(move |record| record.map_err(|error| Failure::of_reading(&file, error)));
+        Ok(Steps { name, header, identity, records: Box::new(records) })
+    }
+
+    /// The records, and how far they are on a terminal. Where lines are printed on it too, they tell.
+    pub fn shown(self, printed: bool) -> impl Iterator<Item = Result<Record, Failure>> {
+        let is_terminal = io::stderr().is_terminal() && !(printed && io::stdout().is_terminal());
+        Progress::new(self.records, format!(" of {} steps", self.header.records()), io::stderr(), is_terminal)
+    }
+}
+
+/// Copies what can be read but once to a file that nobody else finds; so many bytes, and one more where there are more.
+fn keep(input: &mut impl Read, most: u64) -> io::Result<File> {
+    let (path, mut file) = create_new(|number| env::temp_dir().join(format!("amx-{}-{number}", process::id())))?;
+    fs::remove_file(&path)?;
+    io::copy(&mut input.take(most + 1), &mut file)?;
+    file.rewind()?;
+    Ok(file)
+}
+
+/// The steps of a text, line by line.
+struct Lines {
+    name: String,
+    file: BufReader<File>,
+    line: Vec<u8>,
+    assembler: Assembler,
+    lines: usize,
+    bytes: u64,
+}
+
+impl Lines {
+    fn new(name: String, file: File) -> Self {
+        Lines { name, file: BufReader::new(file), line: Vec::new(), assembler: Assembler::new(), lines: 0, bytes: 0 }
+    }
+
+    /// The next line; none at the end.
+    fn read_line(&mut self) -> Result<Option<&str>, Failure> {
+        self.line.clear();
+        let read = self.file.by_ref().take(MAX_LINE as u64 + 1).read_until(b'\n', &mut self.line);
+        let read = read.map_err(|error| Failure::of_file(&self.name, error))?;
+        (self.lines, self.bytes) = (self.lines + 1, self.bytes + read as u64);
+        let wrong = |expected: String| Failure::Text(self.name.clone(), TextError { line: self.lines, expected });
+        match str::from_utf8(&self.line) {
+            _ if read == 0 => Ok(None),
+            _ if read > MAX_LINE => Err(wrong(format!("a line has at most {MAX_LINE} bytes"))),
+            _ if self.bytes > MAX_TEXT => Err(wrong(format!("a text has at most {MAX_TEXT} bytes"))),
+            Ok(line) => Ok(Some(line)),
+            Err(_) => Err(wrong("expected a text in UTF-8".to_owned())),
+        }
+    }
+
+    /// The record of the next step; none at the end.
+    fn record(&mut self) -> Result<Option<Record>, Failure> {
+        loop {
+            let Some(line) = self.read_line()?.map(str::to_owned) else { return Ok(None) };
+            let record = self.assembler.line(&line).map_err(|error| Failure::Text(self.name.clone(), error))?;
+            if record.is_some() {
+                return Ok(record);
+            }
+        }
+    }
+}
+
+impl Iterator for Lines {
+    type Item = Result<Record, Failure>;
+
+    fn next(&mut self) -> Option<Self::Item> {
+        self.record().transpose()
+    }
+}

@@ -1,0 +1,95 @@
+//! The command `amx`: steps as text, trace files, and operands explained.
+mod arguments;
+mod failure;
+mod input;
+mod json;
+mod output;
+mod progress;
+mod run;
+mod summary;
+mod traces;
+
+use crate::{
+    arguments::{Arguments, Options},
+    failure::{Failure, Status},
+};
+use amx::{Call, explain, lane_grid, text};
+use std::{
+    env,
+    io::{self, Write},
+    process::ExitCode,
+};
+
+const HELP: &str = include_str!("help.txt");
+
+/// A command, with its options and what does it.
+type Command = (&'static str, Options, fn(&Arguments) -> Result<Status, Failure>);
+
+const COMMANDS: [Command; 6] = [
+    ("asm", traces::ASM, traces::assemble),
+    ("dis", traces::DIS, traces::disassemble),
+    ("run", run::OPTIONS, run::run),
+    ("cut", traces::CUT, traces::cut),
+    ("explain", Options { usage: "explain INSTRUCTION GENERATION OPERAND, or a step as in a text", alone: &[], valued: &[] }, explain_step),
+    ("lanes", Options { usage: "lanes INSTRUCTION GENERATION OPERAND, or a step as in a text", alone: &[], valued: &[] }, show_lanes),
+];
+
+fn main() -> ExitCode {
+    let words: Result<Vec<String>, _> = env::args_os().skip(1).map(|word| word.into_string()).collect();
+    let done = words.map_err(|word| Failure::Usage(format!("{word:?} is not UTF-8"))).and_then(|words| command(&words));
+    match done {
+        Ok(status) => status.into(),
+        Err(failure) => {
+            if !failure.is_silent() {
+                // a standard error that takes no more changes no status
+                let _ = writeln!(io::stderr(), "amx: {failure}");
+            }
+            failure.status().into()
+        }
+    }
+}
+
+fn command(words: &[String]) -> Result<Status, Failure> {
+    let names = || COMMANDS.iter().map(|(name, ..)| *name).collect::<Vec<_>>().join(", ");
+    if words.iter().take_while(|&word| word != "--").any(|word| word == "--help" || word == "-h") {
+        io::stdout().write_all(HELP.as_bytes())?;
+        return Ok(Status::Ran);
+    }
+    let Some((first, words)) = words.split_first() else {
+        return Err(Failure::Usage(format!("expected a command: {}\n\n{HELP}", names())));
+    };
+    let Some((_, options, run)) = COMMANDS.iter().find(|(name, ..)| name == first) else {
+        return Err(Failure::Usage(format!("expected a command ({}), not {first:?}; amx --help tells more", names())));
+    };
+    run(&Arguments::parse(words, options)?)
+}
+
+fn explain_step(arguments: &Arguments) -> Result<Status, Failure> {
+    let explanation = explain(step(arguments)?).map_err(|refusal| Failure::Usage(format!("{refusal:#}")))?;
+    print(&explanation.to_string())
+}
+
+fn show_lanes(arguments: &Arguments) -> Result<Status, Failure> {
+    print(&lane_grid(step(arguments)?))
+}
+
+fn print(text: &str) -> Result<Status, Failure> {
+    io::stdout().write_all(text.as_bytes())?;
+    Ok(Status::Ran)
+}
+
+/// Three numbers, or the words of a step.
+fn step(arguments: &Arguments) -> Result<Call, Failure> {
+    let line = arguments.all().join(" ");
+    let numbers = line.starts_with(|first: char| first.is_ascii_digit()).then(|| line.split_whitespace().map(text::parse_number));
+    let call = match numbers.map(|numbers| numbers.collect::<Result<Vec<_>, _>>()) {
+        None if line.is_empty() => return Err(arguments.wrong("there are 0 words")),
+        None => text::parse_call(&line),
+        Some(Ok(numbers)) => match numbers[..] {
+            [instruction, generation, operand] => Ok(Call::new(instruction, generation, operand)),
+            _ => return Err(arguments.wrong(&format!("there are {} numbers", numbers.len()))),
+        },
+        Some(Err(error)) => Err(error),
+    };
+    call.map_err(|error| arguments.wrong(&error.to_string()))
+}

@@ -1,0 +1,160 @@
+//! Files that are written whole or not at all.
+use crate::failure::Failure;
+use std::{
+    ffi::OsString,
+    fs::{self, File, Metadata, OpenOptions},
+    io::{self, ErrorKind, Seek, SeekFrom, Write},
+    path::{Path, PathBuf},
+    process,
+};
+
+/// Which file it is, whatever its names are.
+#[derive(Clone, Debug, PartialEq, Eq)]
+pub struct Identity(#[cfg(unix)] (u64, u64), #[cfg(not(unix))] PathBuf);
+
+impl Identity {
+    /// Of what is a file, and no pipe or device.
+    #[cfg(unix)]
+    pub fn of(_: &Path, metadata: &Metadata) -> Option<Self> {
+        use std::os::unix::fs::MetadataExt;
+        metadata.is_file().then(|| Identity((metadata.dev(), metadata.ino())))
+    }
+
+    #[cfg(not(unix))]
+    pub fn of(path: &Path, metadata: &Metadata) -> Option<Self> {
+        fs::canonicalize(path).ok().filter(|_| metadata.is_file()).map(Identity)
+    }
+
+    /// Of the file that standard output goes to, where it does.
+    pub fn of_standard_output() -> Option<Self> {
+        #[cfg(unix)]
+        {
+            use std::os::fd::AsFd;
+            let file = File::from(io::stdout().as_fd().try_clone_to_owned().ok()?);
+            Self::of(Path::new(""), &file.metadata().ok()?)
+        }
+        #[cfg(not(unix))]
+        None
+    }
+}
+
+/// A file that is being written. It has its name when it is committed: before that it has a new one, and is removed where it is dropped.
+/// What is no file (a pipe, a device, standard output as `-`) is written to as it is.
+pub struct Output {
+    name: String,
+    to: To,
+    /// The new name, and the one that it gets.
+    names: Option<(PathBuf, PathBuf)>,
+}
+
+enum To {
+    File(File),
+    StandardOutput(io::Stdout),
+}
+
+impl Output {
+    /// Begins a file. One that is an input, by whatever name, would be lost, and is not written to.
+    pub fn create(name: &str, inputs: &[Identity]) -> Result<Self, Failure> {
+        let (path, failed) = (Path::new(name), |error: io::Error| Failure::of_file(name, error));
+        if name == "-" {
+            return Ok(Output { name: "standard output".to_owned(), to: To::StandardOutput(io::stdout()), names: None });
+        }
+        let there = fs::metadata(path).ok();
+        if there.as_ref().and_then(|there| Identity::of(path, there)).is_some_and(|file| inputs.contains(&file)) {
+            return Err(Failure::Usage(format!("{name}: this is what is read, and would be lost: name another file to write")));
+        }
+        if there.is_some() {
+            // what may not be written to is not replaced either
+            let file = OpenOptions::new().write(true).open(path).map_err(failed)?;
+            if there.as_ref().is_some_and(|there| !there.is_file()) {
+                return Ok(Output { name: name.to_owned(), to: To::File(file), names: None });
+            }
+        }
+        // a link stays a link
+        let whole = fs::canonicalize(path).unwrap_or_else(|_| path.to_owned());
+        let (part, file) = create_beside(&whole).map_err(failed)?;
+        let output = Output { name: name.to_owned(), to: To::File(file), names: Some((part.clone(), whole)) };
+        if let Some(there) = there {
+            fs::set_permissions(&part, there.permissions()).map_err(failed)?;
+        }
+        Ok(output)
+    }
+
+    /// Has all bytes stay where they are, and gives the file its name.
+    pub fn commit(mut self) -> Result<(), Failure> {
+        let settled = match (&mut self.to, self.names.take()) {
+            (To::File(file), Some((part, whole))) => {
+                let settled = file.sync_all().and_then(|()| fs::rename(&part, &whole));
+                settled.inspect_err(|_| drop(fs::remove_file(&part)))
+            }
+            (to, _) => to.flush(),
+        };
+        settled.map_err(|error| Failure::of_file(&self.name, error))
+    }
+}
+
+impl Drop for Output {
+    fn drop(&mut self) {
+        if let Some((part, _)) = &self.names {
+            let _ = fs::remove_file(part);
+        }
+    }
+}
+
+/// A new file in the same directory: no file that is there is written to.
+fn create_beside(whole: &Path) -> io::Result<(PathBuf, File)> {
+    let name = whole.file_name().ok_or_else(|| io::Error::new(ErrorKind::InvalidInput, "expected the name of a file"))?;
+    create_new(|number| {
+        let mut part = OsString::from(".");
+        part.push(name);
+        part.push(format!(".{}.{number}", process::id()));
+        whole.with_file_name(part)
+    })
+}
+
+/// A new file under the first of some names that no file has.
+pub fn create_new(name: impl Fn(u32) -> PathBuf) -> io::Result<(PathBuf, File)> {
+    for number in 0..1_000 {
+        let path = name(number);
+        match OpenOptions::new().read(true).write(true).create_new(true).open(&path) {
+            Err(error) if error.kind() == ErrorKind::AlreadyExists => {}
+            opened => return opened.map(|file| (path, file)),
+        }
+    }
+    Err(io::Error::new(ErrorKind::AlreadyExists, "there is no new name for a file that is being written"))
+}
+
+impl Write for To {
+    fn write(&mut self, bytes: &[u8]) -> io::Result<usize> {
+        match self {
+            To::File(file) => file.write(bytes),
+            To::StandardOutput(output) => output.write(bytes),
+        }
+    }
+
+    fn flush(&mut self) -> io::Result<()> {
+        match self {
+            To::File(file) => file.flush(),
+            To::StandardOutput(output) => output.flush(),
+        }
+    }
+}
+
+impl Write for Output {
+    fn write(&mut self, bytes: &[u8]) -> io::Result<usize> {
+        self.to.write(bytes)
+    }
+
+    fn flush(&mut self) -> io::Result<()> {
+        self.to.flush()
+    }
+}
+
+impl Seek for Output {
+    fn seek(&mut self, to: SeekFrom) -> io::Result<u64> {
+        match &mut self.to {
+            To::File(file) => file.seek(to),
+            To::StandardOutput(_) => Err(ErrorKind::NotSeekable.into()),
+        }
+    }
+}
