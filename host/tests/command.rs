@@ -1,83 +1,9 @@
 //! The `amx` program from outside: its texts, its files, its errors and their statuses.
+mod common;
+
 use amx::{Checkpoint, Record, State, Trace, random::Random, reference, text};
-use std::{
-    fs,
-    io::Write,
-    path::{Path, PathBuf},
-    process::{Command, Output, Stdio},
-    thread,
-};
-
-/// A directory of the test's own, removed afterwards.
-struct Room(PathBuf);
-
-impl Room {
-    fn new(name: &str) -> Self {
-        let path = std::env::temp_dir().join(format!("amx-front-door-{}-{name}", std::process::id()));
-        fs::create_dir_all(&path).unwrap();
-        Room(path)
-    }
-
-    fn write(&self, name: &str, bytes: impl AsRef<[u8]>) -> PathBuf {
-        let path = self.0.join(name);
-        fs::write(&path, bytes).unwrap();
-        path
-    }
-
-    fn names(&self) -> Vec<String> {
-        let mut names: Vec<_> = fs::read_dir(&self.0).unwrap().map(|entry| entry.unwrap().file_name().into_string().unwrap()).collect();
-        names.sort();
-        names
-    }
-}
-
-impl Drop for Room {
-    fn drop(&mut self) {
-        let _ = fs::remove_dir_all(&self.0);
-    }
-}
-
-fn amx(arguments: &[&str]) -> Output {
-    Command::new(env!("CARGO_BIN_EXE_amx")).args(arguments).output().unwrap()
-}
-
-/// The command, fed by a pipe that hands over a few bytes at a time.
-fn fed(arguments: &[&str], bytes: &[u8], piece: usize) -> Output {
-    let mut command = Command::new(env!("CARGO_BIN_EXE_amx"));
-    let mut child = command.args(arguments).stdin(Stdio::piped()).stdout(Stdio::piped()).stderr(Stdio::piped()).spawn().unwrap();
-    let mut input = child.stdin.take().unwrap();
-    thread::scope(|scope| {
-        // it may end before it has read all
-        scope.spawn(move || bytes.chunks(piece).try_for_each(|piece| input.write_all(piece)));
-        child.wait_with_output().unwrap()
-    })
-}
-
-/// What a command that ran says on standard output. `run` says on standard error what came of it, and no other says anything there.
-fn said(arguments: &[&str]) -> String {
-    let output = amx(arguments);
-    assert!(output.status.success(), "{arguments:?}: {}", String::from_utf8_lossy(&output.stderr));
-    assert_eq!(output.stderr.is_empty(), arguments[0] != "run", "{arguments:?}: {}", String::from_utf8_lossy(&output.stderr));
-    String::from_utf8(output.stdout).unwrap()
-}
-
-/// The exit statuses that `amx --help` tells.
-const USAGE: i32 = 2;
-const FILE: i32 = 3;
-const REFUSED: i32 = 4;
-const TEXT: i32 = 5;
-
-/// An error: its status, nothing on standard output, a message that has these words.
-fn fails(status: i32, arguments: &[&str], words: &str) {
-    let output = amx(arguments);
-    let message = String::from_utf8(output.stderr).unwrap();
-    assert_eq!((output.status.code(), output.stdout.len()), (Some(status), 0), "{arguments:?}: {message}");
-    assert!(message.starts_with("amx: ") && message.contains(words), "{arguments:?}: {message}");
-}
-
-fn name(path: &Path) -> &str {
-    path.to_str().unwrap()
-}
+use common::{FILE, REFUSED, Room, TEXT, USAGE, amx, fails, fed, name, said};
+use std::{fs, path::Path};
 
 const SAMPLE: &str = "# the scope's sample\nx: 03\ny: 02\nmac16 m1 vector\nvecint m1 reserved=1\n";
 

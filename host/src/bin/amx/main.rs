@@ -13,7 +13,7 @@ use crate::{
     arguments::{Arguments, Options},
     failure::{Failure, Status},
 };
-use amx::{Call, explain, lane_grid, text};
+use amx::{Call, UNIT_NOTE, explain, lane_grid, text};
 use std::{
     env,
     io::{self, Write},
@@ -51,9 +51,12 @@ fn main() -> ExitCode {
 
 fn command(words: &[String]) -> Result<Status, Failure> {
     let names = || COMMANDS.iter().map(|(name, ..)| *name).collect::<Vec<_>>().join(", ");
-    if words.iter().take_while(|&word| word != "--").any(|word| word == "--help" || word == "-h") {
-        io::stdout().write_all(HELP.as_bytes())?;
-        return Ok(Status::Ran);
+    let asks = |names: &[&str]| words.iter().take_while(|&word| word != "--").any(|word| names.contains(&word.as_str()));
+    if asks(&["--help", "-h"]) {
+        return print(HELP);
+    }
+    if asks(&["--version", "-V"]) {
+        return print(&format!("amx {} on {}\n", env!("CARGO_PKG_VERSION"), UNIT_NOTE.unwrap_or("the proved unit")));
     }
     let Some((first, words)) = words.split_first() else {
         return Err(Failure::Usage(format!("expected a command: {}\n\n{HELP}", names())));
@@ -61,6 +64,9 @@ fn command(words: &[String]) -> Result<Status, Failure> {
     let Some((_, options, run)) = COMMANDS.iter().find(|(name, ..)| name == first) else {
         return Err(Failure::Usage(format!("expected a command ({}), not {first:?}; amx --help tells more", names())));
     };
+    if let Some(note) = UNIT_NOTE {
+        let _ = writeln!(io::stderr(), "amx: {note}");
+    }
     run(&Arguments::parse(words, options)?)
 }
 
@@ -74,7 +80,9 @@ fn show_lanes(arguments: &Arguments) -> Result<Status, Failure> {
 }
 
 fn print(text: &str) -> Result<Status, Failure> {
-    io::stdout().write_all(text.as_bytes())?;
+    let mut output = output::lines()?;
+    output.write_all(text.as_bytes())?;
+    output.flush()?;
     Ok(Status::Ran)
 }
 

@@ -1,9 +1,10 @@
 //! Files that are written whole or not at all.
 use crate::failure::Failure;
+use amx::UNIT_NOTE;
 use std::{
     ffi::OsString,
     fs::{self, File, Metadata, OpenOptions},
-    io::{self, ErrorKind, Seek, SeekFrom, Write},
+    io::{self, BufWriter, ErrorKind, Seek, SeekFrom, StdoutLock, Write},
     path::{Path, PathBuf},
     process,
 };
@@ -38,6 +39,15 @@ impl Identity {
     }
 }
 
+/// Standard output, for lines. The first one says so where the steps are not the proved unit's.
+pub fn lines() -> io::Result<BufWriter<StdoutLock<'static>>> {
+    let mut output = BufWriter::new(io::stdout().lock());
+    if let Some(note) = UNIT_NOTE {
+        writeln!(output, "# {note}")?;
+    }
+    Ok(output)
+}
+
 /// A file that is being written. It has its name when it is committed: before that it has a new one, and is removed where it is dropped.
 /// What is no file (a pipe, a device, standard output as `-`) is written to as it is.
 pub struct Output {
@@ -70,8 +80,7 @@ impl Output {
                 return Ok(Output { name: name.to_owned(), to: To::File(file), names: None });
             }
         }
-        // a link stays a link
-        let whole = fs::canonicalize(path).unwrap_or_else(|_| path.to_owned());
+        let whole = linked(path);
         let (part, file) = create_beside(&whole).map_err(failed)?;
         let output = Output { name: name.to_owned(), to: To::File(file), names: Some((part.clone(), whole)) };
         if let Some(there) = there {
@@ -99,6 +108,12 @@ impl Drop for Output {
             let _ = fs::remove_file(part);
         }
     }
+}
+
+/// Where a link leads to, so that it stays a link, also where nothing is there yet.
+fn linked(path: &Path) -> PathBuf {
+    let followed = || fs::read_link(path).map(|to| path.parent().map_or(to.clone(), |parent| parent.join(to)));
+    fs::canonicalize(path).or_else(|_| followed()).unwrap_or_else(|_| path.to_owned())
 }
 
 /// A new file in the same directory: no file that is there is written to.
@@ -156,5 +171,41 @@ impl Seek for Output {
             To::File(file) => file.seek(to),
             To::StandardOutput(_) => Err(ErrorKind::NotSeekable.into()),
         }
+    }
+}
+
+#[cfg(test)]
+mod tests {
+    use super::*;
+
+    #[test]
+    fn a_file_that_has_the_new_name_is_not_written_to() {
+        let directory = std::env::temp_dir().join(format!("amx-new-names-{}", process::id()));
+        fs::create_dir_all(&directory).unwrap();
+        let name = |number| directory.join(format!("part.{number}"));
+        fs::write(name(0), "another's").unwrap();
+        let (first, _) = create_new(name).unwrap();
+        let (second, _) = create_new(name).unwrap();
+        assert_eq!((first, second), (name(1), name(2)));
+        assert_eq!(fs::read(name(0)).unwrap(), b"another's");
+        assert!(create_new(|_| name(0)).is_err());
+        assert!(create_new(|_| directory.join("none/part")).is_err());
+        fs::remove_dir_all(&directory).unwrap();
+    }
+
+    #[test]
+    fn what_is_dropped_leaves_nothing() {
+        let directory = std::env::temp_dir().join(format!("amx-dropped-{}", process::id()));
+        fs::create_dir_all(&directory).unwrap();
+        let target = directory.join("target");
+        let mut output = Output::create(target.to_str().unwrap(), &[]).unwrap();
+        output.write_all(b"half").unwrap();
+        assert_eq!(fs::read_dir(&directory).unwrap().count(), 1);
+        drop(output);
+        assert_eq!(fs::read_dir(&directory).unwrap().count(), 0);
+        let mut output = Output::create(target.to_str().unwrap(), &[]).unwrap();
+        output.write_all(b"whole").unwrap();
+        assert!(output.commit().is_ok() && fs::read(&target).unwrap() == b"whole");
+        fs::remove_dir_all(&directory).unwrap();
     }
 }

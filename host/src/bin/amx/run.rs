@@ -3,10 +3,10 @@ use crate::{
     arguments::{Arguments, Options},
     failure::{Failure, Status},
     input::Steps,
-    json,
+    json, output,
     summary::{Summary, fault_json},
 };
-use amx::{FileFault, Register, Run};
+use amx::{FileFault, Register, Run, UNIT_NOTE};
 use std::io::{self, BufWriter, Write};
 
 pub const OPTIONS: Options =
@@ -29,9 +29,13 @@ pub fn run(arguments: &Arguments) -> Result<Status, Failure> {
         (false, true) => Form::Json,
         (false, false) => Form::Lines,
     };
-    let mut output = BufWriter::new(io::stdout().lock());
+    let steps = match Steps::open(file) {
+        Err(failure) if !matches!(failure, Failure::Refused(..)) => return Err(failure),
+        steps => steps,
+    };
+    let mut output = if form == Form::Json { BufWriter::new(io::stdout().lock()) } else { output::lines()? };
     let mut ran = Ran::default();
-    let refused = match Steps::open(file).and_then(|steps| ran.take(steps, form, &mut output)) {
+    let refused = match steps.and_then(|steps| ran.take(steps, form, &mut output)) {
         Err(Failure::Refused(name, fault)) => Some((name, fault)),
         taken => taken.map(|()| None)?,
     };
@@ -99,7 +103,8 @@ impl Ran {
             _ => Vec::new(),
         };
         format!(
-            "{{\"file\":{},{},\"rows\":[{}],\"file_refused\":{}}}",
+            "{{\"unit\":{},\"file\":{},{},\"rows\":[{}],\"file_refused\":{}}}",
+            json::string(UNIT_NOTE.unwrap_or("the proved unit")),
             json::string(file),
             self.summary.json(),
             rows.join(","),

@@ -3,10 +3,10 @@ use crate::{
     arguments::{Arguments, Options},
     failure::{Failure, Status},
     input::{Input, Steps},
-    output::Output,
+    output::{self, Output},
 };
 use amx::{NoCheckpoint, TraceWriter, WriteError, text};
-use std::io::{self, BufWriter, Write};
+use std::io::{BufWriter, Write};
 
 pub const ASM: Options = Options { usage: "asm TEXT -o TRACE", alone: &[], valued: &["-o"] };
 pub const DIS: Options = Options { usage: "dis TRACE", alone: &[], valued: &[] };
@@ -20,7 +20,7 @@ pub fn assemble(arguments: &Arguments) -> Result<Status, Failure> {
 pub fn disassemble(arguments: &Arguments) -> Result<Status, Failure> {
     let [trace] = arguments.places()?;
     let steps = Input::open(trace)?.trace()?;
-    let mut output = BufWriter::new(io::stdout().lock());
+    let mut output = output::lines()?;
     let header = steps.header.clone();
     text::write_text(&header, steps.shown(true), &mut output)?;
     output.flush()?;
