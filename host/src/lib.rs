@@ -6,7 +6,7 @@
 //! - [`Mac16`], [`Vecint`], [`Reduction`], [`Vecfp`] and [`Fms64`] build operands by field, of enums that have no reserved values;
 //!   [`Call::new`] and [`with_field`] take any number. [`explain`] goes back, with the ignored bits; [`normal`] clears those.
 //! - [`Trace`] holds a trace file, a whole one or one that goes on from a [`Checkpoint`]; [`TraceReader`], [`TraceWriter`] and [`write_run`]
-//!   read, write and run one step by step, of up to 1,000,000; [`text`] does so with their texts.
+//!   read, write and run one step by step, of up to 1,000,000; [`text`] does so with their texts, whose numbers are of a [`LaneType`].
 //! - [`mod@reference`] is a second program for the same pages, whose floats are whole numbers ([`rounding`]). Nothing here relies on it but
 //!   [`lane_grid`], and builds without the proved unit; the `compare` program runs both.
 //!
@@ -59,6 +59,7 @@ mod answer;
 mod call;
 mod explain;
 mod fault;
+mod lane_type;
 mod operand;
 pub mod random;
 pub mod reference;
@@ -75,6 +76,7 @@ pub use answer::{Answer, NotDone, Reason, Refusal};
 pub use call::{Call, Generation, Instruction, checkpoint_bytes, normal, run, step, step_bytes};
 pub use explain::{Explanation, explain, lane_grid};
 pub use fault::{FileFault, FileRefusal, TableField};
+pub use lane_type::{LaneType, UnknownLaneType};
 pub use operand::{
     AluMode, Broadcast, Enable, Field, FieldError, Float, FloatMode, Fms64, IndexBits, LaneWidths, Mac16, Reduction, ReductionWidths, Side,
     SideEnable, Vecfp, Vecint, Vectors, When, fields, with_field,

@@ -1,4 +1,4 @@
-use crate::{Answer, Record, Register, State, TraceHeader, call::step_due};
+use crate::{Answer, Record, Register, State, TraceHeader, call::step_due, text::Load};
 
 /// The run of a trace, record by record: from its checkpoint, or else from its start, each record with the serial then due.
 ///
@@ -35,6 +35,11 @@ impl Run {
         let place = self.place;
         self.place += 1;
         (place >= self.consumed).then(|| (place, step_due(&mut self.state, record.into())))
+    }
+
+    /// Loads a register, as a text does between steps.
+    pub fn load(&mut self, load: &Load) {
+        load.apply(&mut self.state);
     }
 
     /// Whether the next record is consumed.

@@ -5,7 +5,7 @@ use amx::{Checkpoint, Record, State, Trace, random::Random, reference, text};
 use common::{FILE, REFUSED, Room, TEXT, USAGE, amx, fails, fed, name, said};
 use std::{fs, path::Path};
 
-const SAMPLE: &str = "# the scope's sample\nx: 03\ny: 02\nmac16 m1 vector\nvecint m1 reserved=1\n";
+const SAMPLE: &str = "# the scope's sample\nx i16: 3\ny i16: 2\nmac16 m1 vector\nvecint m1 reserved=1\n";
 
 fn sample_text() -> String {
     format!("step 0 done 64\nstep 1 no-op 1\nz 0 0600{}\nsteps 2\n", "0".repeat(124))
@@ -21,7 +21,7 @@ fn a_text_is_assembled_run_and_taken_apart() {
     assert_eq!(reference::trace(&fs::read(&trace).unwrap()), sample_text());
     assert_eq!(said(&["run", name(&trace)]), sample_text());
     assert_eq!(said(&["run", name(&text)]), sample_text());
-    assert_eq!(said(&["dis", name(&trace)]), "x 0: 03\ny 0: 02\nmac16 m1 vector\nvecint m1 reserved=1\n");
+    assert_eq!(said(&["dis", name(&trace)]), "x 0 hex: 03\ny 0 hex: 02\nmac16 m1 vector\nvecint m1 reserved=1\n");
     assert_eq!(room.names(), ["sample.amx", "sample.txt"]);
 }
 
@@ -65,7 +65,8 @@ fn a_trace_is_cut_and_goes_on() {
         fs::remove_file(&rest).unwrap();
     }
     said(&["cut", name(&trace), "--after", "1", "-o", name(&rest)]);
-    let apart = "x 0: 03\ny 0: 02\nmac16 m1 vector\ncheckpoint\ncount: 1\nx 0: 03\ny 0: 02\nz 0: 06\nvecint m1 reserved=1\n";
+    let apart =
+        "x 0 hex: 03\ny 0 hex: 02\nmac16 m1 vector\ncheckpoint\ncount: 1\nx 0 hex: 03\ny 0 hex: 02\nz 0 hex: 06\nvecint m1 reserved=1\n";
     assert_eq!(said(&["dis", name(&rest)]), apart);
     // after all
     said(&["cut", name(&trace), "--after", "2", "-o", name(&rest)]);
@@ -124,7 +125,7 @@ fn a_cut_that_cannot_be_made_writes_no_file() {
 #[test]
 fn an_error_writes_no_file_and_leaves_the_old_one() {
     let room = Room::new("errors");
-    let wrong = room.write("wrong.txt", "x: 03\nmac16 m1 vector\nmac16 m1 shift=32\n");
+    let wrong = room.write("wrong.txt", "x i16: 3\nmac16 m1 vector\nmac16 m1 shift=32\n");
     let trace = room.0.join("trace");
     let message = "wrong.txt, line 3: shift (bits 55..59) is 0 to 31, not 32";
     fails(TEXT, &["asm", name(&wrong), "-o", name(&trace)], message);
@@ -194,7 +195,7 @@ fn many(steps: usize) -> (String, String) {
         || (0..steps).map(|n| [("mac16 m1 vector", "done 64"), ("vecint m1 reserved=1", "no-op 1"), ("raw 15 1 0x7", "refused 3")][n % 3]);
     let text: String = steps().map(|(step, _)| format!("{step}\n")).collect();
     let lines: String = steps().enumerate().map(|(place, (_, answer))| format!("step {place} {answer}\n")).collect();
-    (format!("x 0: 03\n{text}"), lines)
+    (format!("x 0 hex: 03\n{text}"), lines)
 }
 
 #[test]
@@ -439,7 +440,7 @@ fn floats_are_assembled_run_and_taken_apart() {
     assert_eq!(said(&["run", name(&text)]), expected);
     assert_eq!(reference::trace(&fs::read(&trace).unwrap()), expected);
     let apart = said(&["dis", name(&trace)]);
-    let first = "x 0: 0000c03f000000800000807f01\nx 1: 000000000000d03f000000000000f87f000000000000f0ff\n";
+    let first = "x 0 hex: 0000c03f000000800000807f01\nx 1 hex: 000000000000d03f000000000000f87f000000000000f0ff\n";
     assert!(apart.starts_with(first) && apart.ends_with(steps), "{apart}");
     let again = room.write("again.txt", apart);
     assert_eq!(said(&["run", name(&again)]), expected);
@@ -456,7 +457,8 @@ fn a_float_that_is_none_is_refused_by_its_line() {
         ("z 3 f64: 1 2 3 4 5 6 7 8 9", "line 1: z 3 f64 has 8 lanes, not 9"),
         (
             "z f64: 1",
-            "line 1: expected x, x N, y, y N (N 0 to 7) or z N (0 to 63), and f32 or f64 for float lanes, before the colon, not \"z f64\"",
+            "line 1: expected x, x N, y, y N (N 0 to 7) or z N (0 to 63), then hex or a lane type (i8, i16, i32, u8, u16, u32, f32 or f64), \
+             before the colon, not \"z f64\"",
         ),
         ("vecfp m2 mode=10 widths=4\nvecfp m2 mode=64", "line 2: alu_mode (bits 47..52) is 0 to 63, not 64"),
         ("fms64 m1 several", "line 1: fms64 has no field \"several\"; it has skip_x, "),
@@ -469,11 +471,52 @@ fn a_float_that_is_none_is_refused_by_its_line() {
 }
 
 #[test]
+fn an_old_text_is_told_the_line_to_write() {
+    let room = Room::new("old");
+    let types = "(i8, i16, i32, u8, u16, u32, f32 or f64)";
+    for (text, line, place, hex) in [("\nx: 0300 fdff\n", 2, "x", "0300 fdff"), ("x 3: 05\nmac16 m1\n", 1, "x 3", "05")] {
+        let file = room.write("old.txt", text);
+        let message = format!(
+            "old.txt, line {line}: {place}: does not say what the numbers are: for bytes in hex write \"{place} hex: {hex}\", \
+             for numbers \"{place} i16: ...\" {types}\n"
+        );
+        fails(TEXT, &["asm", name(&file), "-o", name(&room.0.join("trace"))], &message);
+        fails(TEXT, &["run", name(&file)], &message);
+    }
+    assert_eq!(room.names(), ["old.txt"]);
+}
+
+#[test]
+fn repeated_steps_are_assembled_run_and_taken_apart() {
+    let room = Room::new("repeat");
+    let text =
+        "x i16: 3\ny i16: 2 # 6\nrepeat r in 0..3 {\n  mac16 m1 vector z_row=2*r # rows 0, 2 and 4\n}\nrepeat r in 1..2 { raw 15 1 r }\n";
+    let (text, trace) = (room.write("repeat.txt", text), room.0.join("repeat.amx"));
+    said(&["asm", name(&text), "-o", name(&trace)]);
+    let steps = "mac16 m1 vector\nmac16 m1 vector z_row=2\nmac16 m1 vector z_row=4\nraw 15 1 0x1\n";
+    assert_eq!(said(&["dis", name(&trace)]), format!("x 0 hex: 03\ny 0 hex: 02\n{steps}"));
+    let rows: String = [0, 2, 4].map(|row| format!("z {row} 0600{}\n", "0".repeat(124))).concat();
+    let expected = format!("step 0 done 64\nstep 1 done 64\nstep 2 done 64\nstep 3 refused 3\n{rows}steps 4\n");
+    assert_eq!(said(&["run", name(&text)]), expected);
+    assert_eq!(said(&["run", name(&trace)]), expected);
+    for (text, message) in [
+        ("\nrepeat r in 0..64 { mac16 m1 z_row=2*r }", "line 2, r = 32: z_row (bits 20..25) is 0 to 63, not 64\n"),
+        ("repeat r in 0..64 {\nmac16 m1\n", "line 1: the block of r is not closed: expected }\n"),
+        ("repeat r in 0..1000001 { mac16 m1 }", "line 1: a trace holds at most 1000000 steps, and this block makes 1000001 after 0\n"),
+        (&format!("mac16 m1 # {}\n", "-".repeat(70_000)), "line 1: a line has at most 65536 bytes\n"),
+    ] {
+        let wrong = room.write("wrong.txt", text);
+        fails(TEXT, &["asm", name(&wrong), "-o", name(&room.0.join("none"))], &format!("wrong.txt, {message}"));
+    }
+    assert_eq!(room.names(), ["repeat.amx", "repeat.txt", "wrong.txt"]);
+}
+
+#[test]
 fn indexed_loads_are_assembled_run_and_taken_apart() {
     let room = Room::new("indexed");
     // X by the indices 3, 2, 1 and 0 and so on into register 1, times 1 in Y; and a shuffle, which is not covered
     let steps = "vecint m1 indexed index_register=1\nvecint m2 indexed index_4_bits index_y y_shuffle=1\n";
-    let text = room.write("indexed.txt", format!("x: 1b\nx 1: 0a00 1400 1e00 2800\ny: 0100 0100 0100 0100\n{steps}"));
+    let text = room.write("indexed.txt", format!("x hex: 1b\nx 1 i16: 10 20 30 40\ny i16: 1 1 1 1\n{steps}"));
     let trace = room.0.join("indexed.amx");
     said(&["asm", name(&text), "-o", name(&trace)]);
     let expected = format!("step 0 done 64\nstep 1 refused 4\nz 0 28001e0014000a00{}\nsteps 2\n", "0".repeat(112));
@@ -528,7 +571,7 @@ fn lanes_are_those_that_the_step_counts() {
         if let Some(first) = grid.lines().next().filter(|line| line.starts_with("done ")) {
             let numbers: Vec<usize> = first.split(' ').filter_map(|word| word.parse().ok()).collect();
             let shown = grid.matches('#').count();
-            assert_eq!(8 * numbers[0], shown * numbers.get(1).unwrap_or(&0), "{}", text::print_call(call));
+            assert_eq!(8 * numbers[0], shown * numbers.get(1).unwrap_or(&0), "{call}");
         }
     }
 }
@@ -550,7 +593,7 @@ fn help_says_all_of_it_and_wrong_words_are_refused() {
     fails(USAGE, &[], "expected a command: asm, dis, run, cut, explain, lanes\n\namx: the proved AMX unit");
     fails(USAGE, &["assemble"], "expected a command (asm, dis, run, cut, explain, lanes), not \"assemble\"; amx --help tells more");
     fails(USAGE, &["asm", "text"], "expected asm TEXT -o TRACE: -o is missing");
-    fails(USAGE, &["dis"], "expected dis TRACE: there are 0 words");
-    fails(USAGE, &["run"], "expected run FILE [--strict] [--summary | --json]: there are 0 words");
+    fails(USAGE, &["dis"], "expected dis TRACE [--as TYPE]: there are 0 words");
+    fails(USAGE, &["run"], "expected run FILE [--as TYPE | --matrix] [--strict] [--summary | --json]: there are 0 words");
     fails(USAGE, &["run", "a", "--loud"], "there is no option --loud");
 }

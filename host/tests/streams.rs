@@ -12,7 +12,7 @@ use std::{
     thread,
 };
 
-const STEPS: &str = "x : 03\ny: 02\nmac16 m1 vector\nvecint m1 reserved=1\nraw 15 1 0\n";
+const STEPS: &str = "x hex: 03\ny hex: 02\nmac16 m1 vector\nvecint m1 reserved=1\nraw 15 1 0\n";
 
 fn trace() -> Trace {
     text::assemble(STEPS).unwrap()

@@ -6,7 +6,7 @@ use crate::{
 };
 use amx::{
     FileFault, ReadError, Record, TraceHeader, TraceReader,
-    text::{Assembler, TextError},
+    text::{Assembler, Item, MAX_LINE, TextError},
 };
 use std::{
     env,
@@ -19,8 +19,7 @@ use std::{
 /// The bytes of the smallest table: a byte 0 among the first so many tells a trace from a text.
 const TABLE: usize = 28;
 
-/// The most bytes of a line of a text, and of a text: an input that does not end is not read for ever.
-const MAX_LINE: usize = 65_536;
+/// The most bytes of a text: an input that does not end is not read for ever.
 const MAX_TEXT: u64 = 1 << 28;
 
 /// The bytes of the longest trace of three sections.
@@ -42,12 +41,15 @@ enum From {
     Once(Box<dyn Read>),
 }
 
-/// The steps of a trace or of a text, one by one.
+/// The steps of a trace or of a text, one by one, and the loads between those of a text.
 pub struct Steps {
     pub name: String,
     pub header: TraceHeader,
     pub identity: Option<Identity>,
-    records: Box<dyn Iterator<Item = Result<Record, Failure>>>,
+    /// The stretches of steps between loads: one, but for a text with loads.
+    pub stretches: usize,
+    pub has_loads: bool,
+    items: Box<dyn Iterator<Item = Result<Item, Failure>>>,
 }
 
 impl Input {
@@ -115,13 +117,24 @@ impl Input {
             From::Once(from) => keep(&mut Cursor::new(self.first).chain(from), MAX_TEXT).map_err(failed)?,
         };
         let mut lines = Lines::new(name.clone(), file.try_clone().map_err(failed)?);
-        for record in Progress::new(&mut lines, " steps read".to_owned(), io::stderr(), io::stderr().is_terminal()) {
-            record?;
-        }
-        let header = lines.assembler.into_header();
+        let items = Progress::new(&mut lines, " steps read".to_owned(), io::stderr(), io::stderr().is_terminal());
+        let stretches = stretches(items)?;
+        let has_loads = lines.assembler.first_load().is_some();
+        let header = lines.assembler.finish().map_err(|error| Failure::Text(name.clone(), error))?;
         (&file).rewind().map_err(failed)?;
-        Ok(Steps { name: name.clone(), header, identity, records: Box::new(Lines::new(name, file)) })
+        Ok(Steps { name: name.clone(), header, identity, stretches, has_loads, items: Box::new(Lines::new(name, file)) })
     }
+}
+
+/// How many stretches of steps there are between loads; one where there are no steps.
+fn stretches(items: impl Iterator<Item = Result<Item, Failure>>) -> Result<usize, Failure> {
+    let (mut stretches, mut in_stretch) = (0, false);
+    for item in items {
+        let is_step = matches!(item?, Item::Step(_));
+        stretches += usize::from(is_step && !in_stretch);
+        in_stretch = is_step;
+    }
+    Ok(stretches.max(1))
 }
 
 impl Steps {
@@ -137,14 +150,23 @@ impl Steps {
     ) -> Result<Self, Failure> {
         let reader = reader.map_err(|error| Failure::of_reading(&name, error))?;
         let (header, file) = (reader.header().clone(), name.clone());
-        let records = reader.map(move |record| record.map_err(|error| Failure::of_reading(&file, error)));
-        Ok(Steps { name, header, identity, records: Box::new(records) })
+        let items = reader.map(move |record| record.map(Item::Step).map_err(|error| Failure::of_reading(&file, error)));
+        Ok(Steps { name, header, identity, stretches: 1, has_loads: false, items: Box::new(items) })
     }
 
-    /// The records, and how far they are on a terminal. Where lines are printed on it too, they tell.
-    pub fn shown(self, printed: bool) -> impl Iterator<Item = Result<Record, Failure>> {
+    /// The steps and loads, and how far they are on a terminal. Where lines are printed on it too, they tell.
+    pub fn shown(self, printed: bool) -> impl Iterator<Item = Result<Item, Failure>> {
         let is_terminal = io::stderr().is_terminal() && !(printed && io::stdout().is_terminal());
-        Progress::new(self.records, format!(" of {} steps", self.header.records()), io::stderr(), is_terminal)
+        Progress::new(self.items, format!(" of {} steps", self.header.records()), io::stderr(), is_terminal)
+    }
+
+    /// The steps alone, of what has no loads.
+    pub fn records(self, printed: bool) -> impl Iterator<Item = Result<Record, Failure>> {
+        let name = self.name.clone();
+        self.shown(printed).map(move |item| match item? {
+            Item::Step(record) => Ok(record),
+            Item::Load(_) => Err(Failure::Usage(format!("{name}: registers are loaded between its steps: amx asm makes traces of it"))),
+        })
     }
 }
 
@@ -172,38 +194,43 @@ impl Lines {
         Lines { name, file: BufReader::new(file), line: Vec::new(), assembler: Assembler::new(), lines: 0, bytes: 0 }
     }
 
-    /// The next line; none at the end.
-    fn read_line(&mut self) -> Result<Option<&str>, Failure> {
+    /// Takes the next line; false at the end.
+    fn read_line(&mut self) -> Result<bool, Failure> {
         self.line.clear();
-        let read = self.file.by_ref().take(MAX_LINE as u64 + 1).read_until(b'\n', &mut self.line);
+        // a line that is cut here is too long, and the assembler says so
+        let read = self.file.by_ref().take(MAX_LINE as u64 + 2).read_until(b'\n', &mut self.line);
         let read = read.map_err(|error| Failure::of_file(&self.name, error))?;
         (self.lines, self.bytes) = (self.lines + 1, self.bytes + read as u64);
-        let wrong = |expected: String| Failure::Text(self.name.clone(), TextError { line: self.lines, expected });
-        match str::from_utf8(&self.line) {
-            _ if read == 0 => Ok(None),
-            _ if read > MAX_LINE => Err(wrong(format!("a line has at most {MAX_LINE} bytes"))),
+        let wrong = |expected: String| TextError { line: self.lines, rounds: Vec::new(), expected };
+        let taken = match str::from_utf8(&self.line) {
+            _ if read == 0 => return Ok(false),
             _ if self.bytes > MAX_TEXT => Err(wrong(format!("a text has at most {MAX_TEXT} bytes"))),
-            Ok(line) => Ok(Some(line)),
+            Ok(line) => self.assembler.line(line),
+            Err(_) if read > MAX_LINE + 1 => self.assembler.line(&String::from_utf8_lossy(&self.line)),
             Err(_) => Err(wrong("expected a text in UTF-8".to_owned())),
+        };
+        taken.map(|()| true).map_err(|error| self.failure(error))
+    }
+
+    /// The next step or load; none at the end.
+    fn item(&mut self) -> Result<Option<Item>, Failure> {
+        loop {
+            let item = self.assembler.next_item().map_err(|error| self.failure(error))?;
+            if item.is_some() || !self.read_line()? {
+                return Ok(item);
+            }
         }
     }
 
-    /// The record of the next step; none at the end.
-    fn record(&mut self) -> Result<Option<Record>, Failure> {
-        loop {
-            let Some(line) = self.read_line()?.map(str::to_owned) else { return Ok(None) };
-            let record = self.assembler.line(&line).map_err(|error| Failure::Text(self.name.clone(), error))?;
-            if record.is_some() {
-                return Ok(record);
-            }
-        }
+    fn failure(&self, error: TextError) -> Failure {
+        Failure::Text(self.name.clone(), error)
     }
 }
 
 impl Iterator for Lines {
-    type Item = Result<Record, Failure>;
+    type Item = Result<Item, Failure>;
 
     fn next(&mut self) -> Option<Self::Item> {
-        self.record().transpose()
+        self.item().transpose()
     }
 }

@@ -13,7 +13,7 @@ use crate::{
     arguments::{Arguments, Options},
     failure::{Failure, Status},
 };
-use amx::{Call, UNIT_NOTE, explain, lane_grid, text};
+use amx::{Call, UNIT_NOTE, explain, lane_grid, text::StepError};
 use std::{
     env,
     io::{self, Write},
@@ -89,15 +89,14 @@ fn print(text: &str) -> Result<Status, Failure> {
 /// Three numbers, or the words of a step.
 fn step(arguments: &Arguments) -> Result<Call, Failure> {
     let line = arguments.all().join(" ");
-    let numbers = line.starts_with(|first: char| first.is_ascii_digit()).then(|| line.split_whitespace().map(text::parse_number));
-    let call = match numbers.map(|numbers| numbers.collect::<Result<Vec<_>, _>>()) {
-        None if line.is_empty() => return Err(arguments.wrong("there are 0 words")),
-        None => text::parse_call(&line),
-        Some(Ok(numbers)) => match numbers[..] {
-            [instruction, generation, operand] => Ok(Call::new(instruction, generation, operand)),
-            _ => return Err(arguments.wrong(&format!("there are {} numbers", numbers.len()))),
-        },
-        Some(Err(error)) => Err(error),
+    let numbers = line.starts_with(|first: char| first.is_ascii_digit());
+    let call = match line.as_str() {
+        "" => return Err(arguments.wrong("there are 0 words")),
+        _ if numbers => format!("raw {line}").parse(),
+        _ => line.parse(),
     };
-    call.map_err(|error| arguments.wrong(&error.to_string()))
+    call.map_err(|error| match error {
+        StepError::Raw(words) if numbers => arguments.wrong(&format!("there are {words} numbers")),
+        error => arguments.wrong(&error.to_string()),
+    })
 }

@@ -53,9 +53,17 @@ pub fn lines() -> io::Result<BufWriter<StdoutLock<'static>>> {
 pub struct Output {
     name: String,
     to: To,
-    /// The new name, and the one that it gets.
-    names: Option<(PathBuf, PathBuf)>,
+    names: Option<Names>,
 }
+
+/// A file that is written, and has not its name yet: it is removed where it is dropped.
+pub struct Finished {
+    name: String,
+    names: Option<Names>,
+}
+
+/// The new name, and the one that the file gets.
+type Names = (PathBuf, PathBuf);
 
 enum To {
     File(File),
@@ -89,24 +97,46 @@ impl Output {
         Ok(output)
     }
 
-    /// Has all bytes stay where they are, and gives the file its name.
-    pub fn commit(mut self) -> Result<(), Failure> {
-        let settled = match (&mut self.to, self.names.take()) {
-            (To::File(file), Some((part, whole))) => {
-                let settled = file.sync_all().and_then(|()| fs::rename(&part, &whole));
-                settled.inspect_err(|_| drop(fs::remove_file(&part)))
-            }
+    /// Has all bytes stay where they are.
+    pub fn finish(mut self) -> Result<Finished, Failure> {
+        let settled = match (&mut self.to, &self.names) {
+            (To::File(file), Some(_)) => file.sync_all(),
             (to, _) => to.flush(),
         };
-        settled.map_err(|error| Failure::of_file(&self.name, error))
+        settled.map_err(|error| Failure::of_file(&self.name, error))?;
+        Ok(Finished { name: std::mem::take(&mut self.name), names: self.names.take() })
+    }
+}
+
+impl Finished {
+    /// Gives the file its name.
+    pub fn commit(mut self) -> Result<(), Failure> {
+        match self.names.take() {
+            Some((part, whole)) => {
+                let renamed = fs::rename(&part, &whole).inspect_err(|_| drop(fs::remove_file(&part)));
+                renamed.map_err(|error| Failure::of_file(&self.name, error))
+            }
+            None => Ok(()),
+        }
+    }
+}
+
+/// Removes what has not its name yet.
+fn remove(names: &Option<Names>) {
+    if let Some((part, _)) = names {
+        let _ = fs::remove_file(part);
     }
 }
 
 impl Drop for Output {
     fn drop(&mut self) {
-        if let Some((part, _)) = &self.names {
-            let _ = fs::remove_file(part);
-        }
+        remove(&self.names);
+    }
+}
+
+impl Drop for Finished {
+    fn drop(&mut self) {
+        remove(&self.names);
     }
 }
 
@@ -205,7 +235,7 @@ mod tests {
         assert_eq!(fs::read_dir(&directory).unwrap().count(), 0);
         let mut output = Output::create(target.to_str().unwrap(), &[]).unwrap();
         output.write_all(b"whole").unwrap();
-        assert!(output.commit().is_ok() && fs::read(&target).unwrap() == b"whole");
+        assert!(output.finish().and_then(Finished::commit).is_ok() && fs::read(&target).unwrap() == b"whole");
         fs::remove_dir_all(&directory).unwrap();
     }
 }

@@ -6,11 +6,17 @@ use crate::{
     json, output,
     summary::{Summary, fault_json},
 };
-use amx::{FileFault, Register, Run, UNIT_NOTE};
+use amx::{
+    FileFault, LaneType, Register, Run, State, UNIT_NOTE, Width,
+    text::{Item, print_register},
+};
 use std::io::{self, BufWriter, Write};
 
-pub const OPTIONS: Options =
-    Options { usage: "run FILE [--strict] [--summary | --json]", alone: &["--strict", "--summary", "--json"], valued: &[] };
+pub const OPTIONS: Options = Options {
+    usage: "run FILE [--as TYPE | --matrix] [--strict] [--summary | --json]",
+    alone: &["--matrix", "--strict", "--summary", "--json"],
+    valued: &["--as"],
+};
 
 /// What is printed on standard output.
 #[derive(Clone, Copy, PartialEq, Eq)]
@@ -22,7 +28,7 @@ enum Form {
 }
 
 pub fn run(arguments: &Arguments) -> Result<Status, Failure> {
-    let [file] = arguments.places()?;
+    let ([file], rows) = (arguments.places()?, Rows::of(arguments)?);
     let form = match (arguments.is_given("--summary"), arguments.is_given("--json")) {
         (true, true) => return Err(arguments.wrong("--summary and --json are both given")),
         (true, false) => Form::Summary,
@@ -41,9 +47,9 @@ pub fn run(arguments: &Arguments) -> Result<Status, Failure> {
     };
     let fault = refused.as_ref().map(|&(_, fault)| fault);
     match form {
-        Form::Lines => ran.write_rows(fault, &mut output)?,
+        Form::Lines => ran.write_rows(fault, rows, &mut output)?,
         Form::Summary => write!(output, "{}", ran.summary)?,
-        Form::Json => writeln!(output, "{}", ran.json(file, fault))?,
+        Form::Json => writeln!(output, "{}", ran.json(file, fault, rows))?,
     }
     output.flush()?;
     if form == Form::Lines {
@@ -55,6 +61,51 @@ pub fn run(arguments: &Arguments) -> Result<Status, Failure> {
         None if arguments.is_given("--strict") && ran.summary.has_others() => Ok(Status::Strict),
         None => Ok(Status::Ran),
     }
+}
+
+/// How rows of Z are told.
+#[derive(Clone, Copy, PartialEq, Eq)]
+enum Rows {
+    /// As the trace program tells them.
+    Hex,
+    Lanes(LaneType),
+    /// The product of a matrix with 32-bit lanes, which lies in two rows for each lane of Y, as one row.
+    Matrix,
+}
+
+impl Rows {
+    fn of(arguments: &Arguments) -> Result<Self, Failure> {
+        match (lane_type(arguments)?, arguments.is_given("--matrix")) {
+            (Some(_), true) => Err(arguments.wrong("--as and --matrix are both given; a matrix is i32")),
+            (None, true) => Ok(Rows::Matrix),
+            (Some(lane_type), false) => Ok(Rows::Lanes(lane_type)),
+            (None, false) => Ok(Rows::Hex),
+        }
+    }
+}
+
+/// The value of `--as`, where it is given.
+pub fn lane_type(arguments: &Arguments) -> Result<Option<LaneType>, Failure> {
+    let parsed = arguments.value("--as").map(|word| word.parse().map_err(|error| arguments.wrong(&format!("--as: {error}"))));
+    parsed.transpose()
+}
+
+/// The product that a matrix step with 32-bit lanes adds to: that of lane i of X and lane j of Y is in row 2j + i mod 2, lane i div 2.
+fn matrix(state: &State) -> Vec<Vec<i32>> {
+    let number = |i: usize, j: usize| state.signed_lane(Register::Z(2 * j + i % 2), i / 2, Width::Bits32);
+    (0..32).map(|j| (0..32).map(|i| number(i, j)).collect()).collect()
+}
+
+/// A line for each lane of Y, in columns.
+fn write_matrix(state: &State, output: &mut impl Write) -> io::Result<()> {
+    let matrix = matrix(state);
+    let width = matrix.iter().flatten().map(|number| number.to_string().len()).max().unwrap_or(0);
+    writeln!(output, "matrix: lane j of Y in line j, lanes 0 to 31 of X from left to right, i32")?;
+    for (j, line) in matrix.iter().enumerate() {
+        let numbers: String = line.iter().map(|number| format!(" {number:>width$}")).collect();
+        writeln!(output, "{j:>2}:{numbers}")?;
+    }
+    Ok(())
 }
 
 /// A run, as far as it went.
@@ -72,8 +123,15 @@ impl Ran {
         self.summary = Summary::new(steps.header.consumed());
         self.records = steps.header.records();
         let run = self.run.insert(Run::new(&steps.header));
-        for record in steps.shown(form == Form::Lines) {
-            if let Some((place, answer)) = run.take(record?) {
+        for item in steps.shown(form == Form::Lines) {
+            let taken = match item? {
+                Item::Step(record) => run.take(record),
+                Item::Load(load) => {
+                    run.load(&load);
+                    None
+                }
+            };
+            if let Some((place, answer)) = taken {
                 self.summary.add(place, answer);
                 if form == Form::Lines {
                     writeln!(output, "step {place} {answer}")?;
@@ -84,31 +142,56 @@ impl Ran {
     }
 
     /// The lines behind those of the steps: the rows that changed and the number of steps, or the refusal.
-    fn write_rows(&self, fault: Option<FileFault>, output: &mut impl Write) -> io::Result<()> {
+    fn write_rows(&self, fault: Option<FileFault>, rows: Rows, output: &mut impl Write) -> io::Result<()> {
         let (None, Some(run)) = (fault, &self.run) else {
             return fault.map_or(Ok(()), |fault| writeln!(output, "{fault}"));
         };
-        for row in run.changed_rows() {
-            writeln!(output, "z {row} {}", run.state().hex_row(Register::Z(row)))?;
+        let state = run.state();
+        match rows {
+            Rows::Hex => run.changed_rows().try_for_each(|row| writeln!(output, "z {row} {}", state.hex_row(Register::Z(row))))?,
+            Rows::Lanes(lane_type) => {
+                let line = |row| print_register(Register::Z(row), state.row(Register::Z(row)), Some(lane_type));
+                run.changed_rows().try_for_each(|row| writeln!(output, "{}", line(row)))?;
+            }
+            Rows::Matrix => write_matrix(state, output)?,
         }
         writeln!(output, "steps {}", self.records)
     }
 
-    fn json(&self, file: &str, fault: Option<FileFault>) -> String {
-        let rows: Vec<String> = match (&self.run, fault) {
-            (Some(run), None) => {
-                let row = |row| format!("{{\"row\":{row},\"hex\":\"{}\"}}", run.state().hex_row(Register::Z(row)));
-                run.changed_rows().map(row).collect()
-            }
-            _ => Vec::new(),
+    fn json(&self, file: &str, fault: Option<FileFault>, rows: Rows) -> String {
+        let told = match (&self.run, fault) {
+            (Some(run), None) => rows_json(run, rows),
+            _ => "\"rows\":[]".to_owned(),
         };
         format!(
-            "{{\"unit\":{},\"file\":{},{},\"rows\":[{}],\"file_refused\":{}}}",
+            "{{\"unit\":{},\"file\":{},{},{told},\"file_refused\":{}}}",
             json::string(UNIT_NOTE.unwrap_or("the proved unit")),
             json::string(file),
             self.summary.json(),
-            rows.join(","),
             fault_json(fault)
         )
+    }
+}
+
+/// The rows that changed, or the matrix, as a field of a JSON object.
+fn rows_json(run: &Run, rows: Rows) -> String {
+    let list = |items: Vec<String>| format!("[{}]", items.join(","));
+    let state = run.state();
+    let row = |row: usize| match rows {
+        Rows::Lanes(lane_type) => {
+            let lanes = state.row(Register::Z(row)).chunks(lane_type.bytes()).map(|lane| lane_type.print(lane));
+            // JSON has no infinities and no patterns
+            let float = matches!(lane_type, LaneType::F32 | LaneType::F64);
+            let lanes = lanes.map(|number| if float { json::string(&number) } else { number }).collect();
+            format!("{{\"row\":{row},\"{lane_type}\":{}}}", list(lanes))
+        }
+        _ => format!("{{\"row\":{row},\"hex\":\"{}\"}}", state.hex_row(Register::Z(row))),
+    };
+    match rows {
+        Rows::Matrix => {
+            let lines = matrix(state).iter().map(|line| list(line.iter().map(i32::to_string).collect())).collect();
+            format!("\"matrix\":{}", list(lines))
+        }
+        _ => format!("\"rows\":{}", list(run.changed_rows().map(row).collect())),
     }
 }

@@ -3,26 +3,41 @@ use crate::{
     arguments::{Arguments, Options},
     failure::{Failure, Status},
     input::{Input, Steps},
-    output::{self, Output},
+    output::{self, Finished, Identity, Output},
+    run::lane_type,
 };
-use amx::{NoCheckpoint, TraceWriter, WriteError, text};
-use std::io::{BufWriter, Write};
+use amx::{
+    NoCheckpoint, Record, Run, State, Trace, TraceWriter, WriteError,
+    text::{self, Item},
+    words::counted,
+};
+use std::{
+    fs,
+    io::{BufWriter, Write},
+    path::Path,
+};
 
 pub const ASM: Options = Options { usage: "asm TEXT -o TRACE", alone: &[], valued: &["-o"] };
-pub const DIS: Options = Options { usage: "dis TRACE", alone: &[], valued: &[] };
+pub const DIS: Options = Options { usage: "dis TRACE [--as TYPE]", alone: &[], valued: &["--as"] };
 pub const CUT: Options = Options { usage: "cut FILE --after K -o TRACE, FILE a trace or a text", alone: &[], valued: &["--after", "-o"] };
+
+/// The most traces that are made of one text.
+const MOST: usize = 1_000;
+
+type TraceOutput = TraceWriter<BufWriter<Output>>;
 
 pub fn assemble(arguments: &Arguments) -> Result<Status, Failure> {
     let ([text], trace) = (arguments.places()?, arguments.needed("-o")?);
-    write_trace(trace, Input::open(text)?.text()?, None)
+    let steps = Input::open(text)?.text()?;
+    if steps.stretches == 1 && !steps.has_loads { write_trace(trace, steps, None) } else { write_stretches(trace, steps) }
 }
 
 pub fn disassemble(arguments: &Arguments) -> Result<Status, Failure> {
-    let [trace] = arguments.places()?;
+    let ([trace], form) = (arguments.places()?, lane_type(arguments)?);
     let steps = Input::open(trace)?.trace()?;
     let mut output = output::lines()?;
     let header = steps.header.clone();
-    text::write_text(&header, steps.shown(true), &mut output)?;
+    text::write_text(&header, steps.records(true), form, &mut output)?;
     output.flush()?;
     Ok(Status::Ran)
 }
@@ -34,13 +49,20 @@ pub fn cut(arguments: &Arguments) -> Result<Status, Failure> {
     write_trace(rest, Steps::open(file)?, Some(consumed))
 }
 
+fn failure(name: &str) -> impl Fn(WriteError) -> Failure {
+    move |error| match error {
+        WriteError::Io(error) => Failure::of_file(name, error),
+        error => Failure::Usage(format!("{name}: {error}")),
+    }
+}
+
+fn finish(to: &str, output: BufWriter<Output>) -> Result<Finished, Failure> {
+    output.into_inner().map_err(|error| Failure::of_file(to, error.into_error()))?.finish()
+}
+
 /// Writes the steps of a file into a trace file; where they are to be cut, one that goes on after so many.
 fn write_trace(to: &str, steps: Steps, cut: Option<usize>) -> Result<Status, Failure> {
     let (header, from) = (steps.header.clone(), steps.name.clone());
-    let failed = |error| match error {
-        WriteError::Io(error) => Failure::of_file(to, error),
-        error => Failure::Usage(format!("{from}: {error}")),
-    };
     let output = BufWriter::new(Output::create(to, steps.identity.as_slice())?);
     let (start, n) = (header.start(), header.records());
     let writer = match (cut, header.checkpoint()) {
@@ -49,11 +71,135 @@ fn write_trace(to: &str, steps: Steps, cut: Option<usize>) -> Result<Status, Fai
         (None, Some(checkpoint)) => TraceWriter::resumed(output, start, n, checkpoint.clone()),
         (None, None) => TraceWriter::new(output, start, n),
     };
-    let mut writer = writer.map_err(failed)?;
-    for record in steps.shown(false) {
-        writer.push(record?).map_err(failed)?;
+    let mut writer = writer.map_err(|error| match error {
+        WriteError::Io(error) => Failure::of_file(to, error),
+        error => Failure::Usage(format!("{from}: {error}")),
+    })?;
+    for record in steps.records(false) {
+        writer.push(record?).map_err(failure(to))?;
     }
-    let output = writer.finish().map_err(failed)?;
-    output.into_inner().map_err(|error| failed(WriteError::Io(error.into_error())))?.commit()?;
+    finish(to, writer.finish().map_err(failure(to))?)?.commit()?;
     Ok(Status::Ran)
+}
+
+/// Writes a trace for each stretch of steps between loads, all of them or none, and tells their names.
+fn write_stretches(to: &str, steps: Steps) -> Result<Status, Failure> {
+    let several = steps.stretches > 1;
+    if several && (to == "-" || fs::metadata(to).is_ok_and(|there| !there.is_file())) {
+        let message = format!("{to}: {} makes {} traces, one for each stretch between loads: name a file", steps.name, steps.stretches);
+        return Err(Failure::Usage(message));
+    }
+    if steps.stretches > MOST {
+        let message =
+            format!("{}: registers are loaded so often that it makes {} traces, at most {MOST} are written", steps.name, steps.stretches);
+        return Err(Failure::Usage(message));
+    }
+    let (name, inputs) = (Numbered::new(to, steps.stretches), steps.identity.clone().into_iter().collect());
+    // how many steps each of several has is known at its end
+    let announced = if several { Trace::MAX_RECORDS } else { steps.header.records() };
+    let mut stretches = Stretches { name, inputs, announced, writer: None, finished: Vec::new() };
+    let mut run = Run::new(&steps.header);
+    for item in steps.shown(false) {
+        match item? {
+            Item::Step(record) => {
+                stretches.begin(run.state())?;
+                stretches.push(record)?;
+                run.take(record);
+            }
+            Item::Load(load) => {
+                stretches.end()?;
+                run.load(&load);
+            }
+        }
+    }
+    if !several {
+        // also where there is no step
+        stretches.begin(run.state())?;
+    }
+    stretches.end()?;
+    if !several {
+        return stretches.finished.into_iter().try_for_each(|(.., finished)| finished.commit()).map(|()| Status::Ran);
+    }
+    let mut lines = output::lines()?;
+    for (name, steps, finished) in stretches.finished {
+        finished.commit()?;
+        writeln!(lines, "{name}: {}", counted(steps, "step"))?;
+    }
+    lines.flush()?;
+    Ok(Status::Ran)
+}
+
+/// The traces of a text with loads.
+struct Stretches {
+    name: Numbered,
+    inputs: Vec<Identity>,
+    announced: usize,
+    /// The one that is being written, with its steps.
+    writer: Option<(TraceOutput, u64)>,
+    finished: Vec<(String, u64, Finished)>,
+}
+
+impl Stretches {
+    /// Begins a stretch, where none has begun.
+    fn begin(&mut self, start: &State) -> Result<(), Failure> {
+        if self.writer.is_none() && self.finished.len() < self.name.count {
+            let to = self.name.of(self.finished.len());
+            let output = BufWriter::new(Output::create(&to, &self.inputs)?);
+            self.writer = Some((TraceWriter::new(output, start, self.announced).map_err(failure(&to))?, 0));
+        }
+        Ok(())
+    }
+
+    fn push(&mut self, record: Record) -> Result<(), Failure> {
+        let to = self.name.of(self.finished.len());
+        let (writer, steps) = self.writer.as_mut().expect("a stretch has begun");
+        *steps += 1;
+        writer.push(record).map_err(failure(&to))
+    }
+
+    /// Ends the stretch, where there is one.
+    fn end(&mut self) -> Result<(), Failure> {
+        let Some((writer, steps)) = self.writer.take() else { return Ok(()) };
+        let to = self.name.of(self.finished.len());
+        let output = if self.name.count == 1 { writer.finish() } else { writer.finish_here() };
+        let finished = finish(&to, output.map_err(failure(&to))?)?;
+        self.finished.push((to, steps, finished));
+        Ok(())
+    }
+}
+
+/// The names of several files: `kernel-0.amx` and so on for `kernel.amx`, with as many digits as the last number has.
+struct Numbered {
+    path: String,
+    count: usize,
+}
+
+impl Numbered {
+    fn new(path: &str, count: usize) -> Self {
+        Numbered { path: path.to_owned(), count }
+    }
+
+    fn of(&self, number: usize) -> String {
+        let (path, digits) = (Path::new(&self.path), (self.count - 1).to_string().len());
+        if self.count == 1 {
+            return self.path.clone();
+        }
+        let [stem, dot, extension] = match (path.file_stem(), path.extension()) {
+            (Some(stem), Some(extension)) => [stem.to_string_lossy(), ".".into(), extension.to_string_lossy()],
+            (stem, _) => [stem.unwrap_or_default().to_string_lossy(), "".into(), "".into()],
+        };
+        path.with_file_name(format!("{stem}-{number:0digits$}{dot}{extension}")).to_string_lossy().into_owned()
+    }
+}
+
+#[cfg(test)]
+mod tests {
+    use super::*;
+
+    #[test]
+    fn files_are_numbered_before_their_extension() {
+        let names = |path, count| (0..count).map(|number| Numbered::new(path, count).of(number)).collect::<Vec<_>>();
+        assert_eq!(names("a/kernel.amx", 2), ["a/kernel-0.amx", "a/kernel-1.amx"]);
+        assert_eq!((names("kernel", 1), names("kernel", 11)[9].as_str()), (vec!["kernel".to_owned()], "kernel-09"));
+    }
 }

@@ -2,7 +2,7 @@
 use crate::case::Step;
 use crate::sent::count_of;
 use crate::steps::{on_both, pairs};
-use amx::{Call, REGISTER_BYTES, STATE_LENGTH, reference, text::print_call};
+use amx::{Call, REGISTER_BYTES, STATE_LENGTH, reference};
 
 /// Every mode and value of X's mask with every one of Y's, in a vector step, matrix 16 and matrix 32.
 fn mac16() -> Vec<u64> {
@@ -48,7 +48,7 @@ pub fn every(step: Step) -> Result<usize, String> {
         let counted = step(&mut state, call, due);
         let walked = walked(call);
         if counted != walked {
-            return Err(format!("{} counts {counted} bytes, and {walked} lie in enabled lanes", print_call(call)));
+            return Err(format!("{call} counts {counted} bytes, and {walked} lie in enabled lanes"));
         }
     }
     Ok(calls.len())

@@ -38,12 +38,13 @@ fn options() -> Result<Option<Options>, String> {
     let trace = PathBuf::from(env!("CARGO_MANIFEST_DIR")).join("../../target/bin/amx_trace");
     let mut options = Options { seed: 1, steps: 400_000, trace, need_trace: false };
     let mut arguments = std::env::args().skip(1);
+    let number = |word: &str| parse_number(word).map_err(|error| error.to_string());
     while let Some(argument) = arguments.next() {
         let mut value = || arguments.next().ok_or(format!("{argument} needs a value"));
         match argument.as_str() {
             "--help" | "-h" => return Ok(None),
-            "--seed" => options.seed = parse_number(&value()?)?,
-            "--steps" => options.steps = parse_number(&value()?)?,
+            "--seed" => options.seed = number(&value()?)?,
+            "--steps" => options.steps = number(&value()?)?,
             "--trace" => options.trace = value()?.into(),
             "--need-trace" => options.need_trace = true,
             other => return Err(format!("there is no option {other}\n{HELP}")),

@@ -1,5 +1,5 @@
 //! A call as it is sent: with a serial that is chosen by the state's count, or by the steps before.
-use amx::{Call, REGISTER_BYTES, STATE_LENGTH, random::Random, text::print_call};
+use amx::{Call, REGISTER_BYTES, STATE_LENGTH, random::Random};
 use std::fmt;
 
 /// The count of a state; one of another length has none.
@@ -87,7 +87,7 @@ impl Serial {
 impl fmt::Display for Sent {
     fn fmt(&self, f: &mut fmt::Formatter) -> fmt::Result {
         let Call { instruction, generation, operand } = self.call;
-        write!(f, "{}  (raw {instruction} {generation} {operand:#x}), ", print_call(self.call))?;
+        write!(f, "{}  (raw {instruction} {generation} {operand:#x}), ", self.call)?;
         match self.serial {
             Serial::Due => write!(f, "serial due"),
             Serial::Past(more) if more > u64::MAX / 2 => write!(f, "serial {} before the one due", more.wrapping_neg()),
