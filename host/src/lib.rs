@@ -7,8 +7,9 @@
 //!   [`Call::new`] and [`with_field`] take any number. [`explain`] goes back, with the ignored bits; [`normal`] clears those.
 //! - [`Trace`] holds a trace file, a whole one or one that goes on from a [`Checkpoint`]; [`TraceReader`], [`TraceWriter`] and [`write_run`]
 //!   read, write and run one step by step, of up to 1,000,000; [`text`] does so with their texts, whose numbers are of a [`LaneType`].
+//! - [`effects`] tells what a step does to each lane, in numbers.
 //! - [`mod@reference`] is a second program for the same pages, whose floats are whole numbers ([`rounding`]). Nothing here relies on it but
-//!   [`lane_grid`], and builds without the proved unit; the `compare` program runs both.
+//!   [`effects`], [`explain`] and [`lane_grid`], and builds without the proved unit; the `compare` program runs both.
 //!
 //! ```
 //! use amx::{AluMode, Answer, Call, Enable, LaneWidths, Register, State, Vecint, Width, step};
@@ -57,6 +58,7 @@
 
 mod answer;
 mod call;
+mod effects;
 mod explain;
 mod fault;
 mod lane_type;
@@ -74,6 +76,7 @@ pub mod words;
 
 pub use answer::{Answer, NotDone, Reason, Refusal};
 pub use call::{Call, Generation, Instruction, checkpoint_bytes, normal, run, step, step_bytes};
+pub use effects::{Kept, LaneEffect, Value, effects, effects_on};
 pub use explain::{Explanation, explain, lane_grid};
 pub use fault::{FileFault, FileRefusal, TableField};
 pub use lane_type::{LaneType, UnknownLaneType};

@@ -1,5 +1,5 @@
-//! A second program for the same pages: the four instructions, the normal operand, the terms of the swap rule, the trace text, and traces
-//! cut in two.
+//! A second program for the same pages: the four instructions, what they do to each lane, the normal operand, the terms of the swap rule,
+//! the trace text, and traces cut in two.
 //!
 //! Written from the scope's text lane by lane, for plainness and not for speed. It shares no code with the proved unit nor with the rest
 //! of this crate, so that a misreading in one of them shows when they are compared; its floats are [`rounding`](crate::rounding)'s, in
@@ -7,6 +7,7 @@
 //! reason of a no-op, 131,072 + the number of a refusal.
 
 use crate::rounding::{DOUBLE, Format, SINGLE};
+use std::ops::Range;
 
 const NO_OP: u64 = 65_536;
 const REFUSED: u64 = 131_072;
@@ -49,6 +50,21 @@ impl Lane {
     pub fn start(&self) -> usize {
         Z + 64 * self.row + self.bytes * self.lane
     }
+}
+
+/// What a step reads for an enabled lane, and what it gives to it. Numbers of float steps are patterns.
+#[derive(Clone, Copy, Debug, PartialEq, Eq)]
+pub struct Effect {
+    /// The X number, 0 where X reads as 0; none where the operation does not use X.
+    pub x: Option<i64>,
+    /// The Y number, likewise.
+    pub y: Option<i64>,
+    /// What the lane had; none where the operation does not use it.
+    pub old: Option<i64>,
+    /// What the operation gives: integers exactly, floats rounded once.
+    pub result: i64,
+    /// The result, clamped where the step clamps it. It is stored modulo 2 to the lane's width.
+    pub clamped: i64,
 }
 
 /// The refusal of an unknown generation or instruction.
@@ -113,13 +129,21 @@ fn not_done(instruction: u64, generation: u64, operand: u64) -> Option<u64> {
 
 /// The Z lanes that a call enables where it is sent with the serial due, none where it isn't done.
 pub fn lanes(instruction: u64, generation: u64, operand: u64) -> Vec<Lane> {
-    match (not_done(instruction, generation, operand), instruction) {
-        (Some(_), _) => Vec::new(),
-        (None, 11) => fms64_lanes(operand),
-        (None, 14) => mac16_lanes(operand),
-        (None, 18) => vecint_lanes(generation, operand),
-        _ => vecfp_lanes(generation, operand),
+    lanes_in(instruction, generation, operand, &(0..64))
+}
+
+/// Those of the lanes that lie in some rows.
+fn lanes_in(instruction: u64, generation: u64, operand: u64, rows: &Range<usize>) -> Vec<Lane> {
+    let mut enabled = match (not_done(instruction, generation, operand), instruction) {
+        (Some(_), _) => return Vec::new(),
+        (None, 11) => fms64_lanes(operand, rows),
+        (None, 14) => mac16_lanes(operand, rows),
+        _ => vector_lanes(generation, read_bits(instruction, operand), lane_bits(instruction, operand), rows),
+    };
+    if *rows != (0..64) {
+        enabled.retain(|lane| rows.contains(&lane.row));
     }
+    enabled
 }
 
 /// Whether a step only adds to Z, so that it may be swapped with another such step of the same lane width. Sums of floats are rounded, so
@@ -130,7 +154,7 @@ pub fn only_adds(instruction: u64, generation: u64, operand: u64) -> bool {
     }
     match instruction {
         14 => !bit(operand, 27),
-        18 => matches!(alu_mode(operand), 0..=3 | 11 | 12) && !output_forced_to_0(generation, operand),
+        18 => matches!(alu_mode(operand), 0..=3 | 11 | 12) && !forced_to_0(instruction, generation, operand),
         _ => false,
     }
 }
@@ -154,13 +178,112 @@ pub fn step(state: &mut [u8], instruction: u64, generation: u64, operand: u64, s
 /// What a done step does to the registers, and the Z bytes in its enabled lanes.
 fn done(state: &mut [u8], instruction: u64, generation: u64, operand: u64) -> u64 {
     let enabled = lanes(instruction, generation, operand);
-    match instruction {
-        11 => fms64(state, &enabled, operand),
-        14 => mac16(state, &enabled, operand),
-        18 => vecint(state, &enabled, generation, operand),
-        _ => vecfp(state, &enabled, generation, operand),
+    let loaded = Loaded::new(state, instruction, generation, operand);
+    for lane in &enabled {
+        let result = loaded.result(loaded.numbers(state, lane));
+        store(state, lane, loaded.clamped(result));
     }
     enabled.iter().map(|lane| lane.bytes as u64).sum()
+}
+
+/// What a step that is sent with the serial due does to each lane that it enables and that has a byte in these rows, at these places of the
+/// row; nothing where it isn't done.
+pub fn effects(
+    state: &[u8],
+    instruction: u64,
+    generation: u64,
+    operand: u64,
+    rows: Range<usize>,
+    places: Range<usize>,
+) -> Vec<(Lane, Effect)> {
+    if state.len() != LENGTH || refused(state, instruction, generation, taken(state)).is_some() {
+        return Vec::new();
+    }
+    let mut enabled = lanes_in(instruction, generation, operand, &(rows.start..rows.end.min(64)));
+    enabled.retain(|lane| places.start.max(lane.bytes * lane.lane) < places.end.min(lane.bytes * (lane.lane + 1)));
+    if enabled.is_empty() {
+        return Vec::new();
+    }
+    let loaded = Loaded::new(state, instruction, generation, operand);
+    let [uses_x, uses_y, uses_z] = uses(instruction, generation, operand);
+    let effect = |lane| {
+        let [x, y, old] = loaded.numbers(state, &lane);
+        let result = loaded.result([x, y, old]);
+        let (x, y, old) = (uses_x.then_some(x), uses_y.then_some(y), uses_z.then_some(old));
+        (lane, Effect { x, y, old, result, clamped: loaded.clamped(result) })
+    };
+    enabled.into_iter().map(effect).collect()
+}
+
+/// A done step, with the numbers that X and Y give to it.
+struct Loaded {
+    instruction: u64,
+    operand: u64,
+    forced_to_0: bool,
+    /// The least and the greatest number, where a result is clamped.
+    clamp: Option<(i64, i64)>,
+    z_signed: bool,
+    x: Side,
+    y: Side,
+}
+
+/// The numbers of X or Y, vector by vector; those of floats are patterns.
+struct Side {
+    lanes: usize,
+    numbers: Vec<i64>,
+}
+
+impl Side {
+    /// Lanes of so many bytes; of each, the low ones that are read make the number.
+    fn new(vectors: impl Iterator<Item = [u8; 64]>, bytes: usize, read: usize, signed: bool) -> Self {
+        let mut numbers = Vec::with_capacity(256);
+        for vector in vectors {
+            numbers.extend(vector.chunks_exact(bytes).map(|lane| number(&lane[..read], signed)));
+        }
+        Side { lanes: 64 / bytes, numbers }
+    }
+
+    fn lane(&self, vector: usize, lane: usize) -> i64 {
+        self.numbers[self.lanes * vector + lane]
+    }
+}
+
+impl Loaded {
+    fn new(state: &[u8], instruction: u64, generation: u64, operand: u64) -> Self {
+        let operand = read_bits(instruction, operand);
+        let side = |y| match instruction {
+            11 | 14 => matrix_side(state, instruction, operand, y),
+            _ => vector_side(state, instruction, generation, operand, y),
+        };
+        let (forced_to_0, clamp) = (forced_to_0(instruction, generation, operand), clamp(instruction, operand));
+        Loaded { instruction, operand, forced_to_0, clamp, z_signed: z_signs(instruction, operand).0, x: side(false), y: side(true) }
+    }
+
+    /// The numbers of X, Y and Z that come together in a lane.
+    fn numbers(&self, state: &[u8], lane: &Lane) -> [i64; 3] {
+        let z = number(&state[lane.start()..][..lane.bytes], self.z_signed);
+        [self.x.lane(lane.vector, lane.x), self.y.lane(lane.vector, lane.y), z]
+    }
+
+    /// What the operation gives for them.
+    fn result(&self, [x, y, z]: [i64; 3]) -> i64 {
+        match self.instruction {
+            _ if self.forced_to_0 => 0,
+            11 => fms64(self.operand, x as u64, y as u64, z as u64) as i64,
+            14 => mac16(self.operand, x, y, z),
+            18 => vecint(self.operand, x, y, z),
+            _ => vecfp(self.operand, x as u64, y as u64, z as u64) as i64,
+        }
+    }
+
+    fn clamped(&self, result: i64) -> i64 {
+        self.clamp.map_or(result, |(least, greatest)| result.clamp(least, greatest))
+    }
+}
+
+/// The operand as the step reads it: vecfp ignores the highest bit of what is vecint's enable value.
+fn read_bits(instruction: u64, operand: u64) -> u64 {
+    if instruction == 19 { operand & !(1 << 37) } else { operand }
 }
 
 /// 64 bytes of X or Y, round the 512-byte ring.
@@ -168,16 +291,20 @@ fn load(ring: &[u8], offset: usize) -> [u8; 64] {
     std::array::from_fn(|i| ring[(offset + i) % 512])
 }
 
-/// The little-endian number in 1, 2 or 4 bytes.
+/// The little-endian number in 1, 2 or 4 bytes; in 8 bytes, the pattern of a float.
 fn number(bytes: &[u8], signed: bool) -> i64 {
-    let unsigned = bytes.iter().rev().fold(0, |n, &byte| n * 256 + i64::from(byte));
-    let span = 1 << (8 * bytes.len());
-    if signed && unsigned >= span / 2 { unsigned - span } else { unsigned }
+    let (unsigned, unused) = (u64_in(bytes) as i64, 64 - 8 * bytes.len());
+    if signed { unsigned << unused >> unused } else { unsigned }
 }
 
-/// The little-endian number in up to 8 bytes, unsigned.
+/// The little-endian number in 1, 2, 4 or 8 bytes, unsigned.
 fn u64_in(bytes: &[u8]) -> u64 {
-    bytes.iter().rev().fold(0, |n, &byte| n << 8 | u64::from(byte))
+    match *bytes {
+        [byte] => byte.into(),
+        [a, b] => u16::from_le_bytes([a, b]).into(),
+        [a, b, c, d] => u32::from_le_bytes([a, b, c, d]).into(),
+        _ => u64::from_le_bytes(bytes.try_into().expect("8 bytes")),
+    }
 }
 
 /// Stores a result modulo 2 to the lane's width.
@@ -206,16 +333,16 @@ fn side_mask(operand: u64, x: bool, i: usize, count: usize) -> bool {
     if mode == 1 { i == n } else { common_mask(mode, n, i, count) }
 }
 
-fn mac16_lanes(operand: u64) -> Vec<Lane> {
-    let (x_on, y_on) = (|i| side_mask(operand, true, i, 32), |j| side_mask(operand, false, j, 32));
+fn mac16_lanes(operand: u64, rows: &Range<usize>) -> Vec<Lane> {
+    let (x_on, y_on) = (|i: &usize| side_mask(operand, true, *i, 32), |j: &usize| side_mask(operand, false, *j, 32));
     let z_row = bits(operand, 20, 25);
     let mut enabled = Vec::with_capacity(1_024);
-    for i in (0..32).filter(|&i| x_on(i)) {
-        if bit(operand, 63) {
-            enabled.push(Lane { row: z_row, lane: i, bytes: 2, vector: 0, x: i, y: i });
-            continue;
-        }
-        for j in (0..32).filter(|&j| y_on(j)) {
+    if bit(operand, 63) {
+        enabled.extend((0..32).filter(x_on).map(|i| Lane { row: z_row, lane: i, bytes: 2, vector: 0, x: i, y: i }));
+        return enabled;
+    }
+    for j in (rows.start / 2..rows.end.div_ceil(2)).filter(y_on) {
+        for i in (0..32).filter(x_on) {
             enabled.push(if bit(operand, 62) {
                 Lane { row: 2 * j + i % 2, lane: i / 2, bytes: 4, vector: 0, x: i, y: j }
             } else {
@@ -226,57 +353,39 @@ fn mac16_lanes(operand: u64) -> Vec<Lane> {
     enabled
 }
 
-fn mac16(state: &mut [u8], enabled: &[Lane], operand: u64) {
-    let x = load(&state[..512], bits(operand, 10, 18));
-    let y = load(&state[512..Z], bits(operand, 0, 8));
-    let (x_bytes, y_bytes) = (if bit(operand, 61) { 1 } else { 2 }, if bit(operand, 60) { 1 } else { 2 });
-    let shift = bits(operand, 55, 59);
-    for lane in enabled {
-        // an i8 is the low byte of its 16-bit lane
-        let x = number(&x[2 * lane.x..][..x_bytes], true);
-        let y = number(&y[2 * lane.y..][..y_bytes], true);
-        let value = match (bit(operand, 29), bit(operand, 28)) {
-            (false, false) => x * y,
-            (false, true) => x,
-            (true, false) => y,
-            (true, true) => 0,
-        };
-        let old = if bit(operand, 27) { 0 } else { number(&state[lane.start()..][..lane.bytes], true) };
-        store(state, lane, old + (value >> shift));
-    }
+fn mac16(operand: u64, x: i64, y: i64, z: i64) -> i64 {
+    let value = match (bit(operand, 29), bit(operand, 28)) {
+        (false, false) => x * y,
+        (false, true) => x,
+        (true, false) => y,
+        (true, true) => 0,
+    };
+    let old = if bit(operand, 27) { 0 } else { z };
+    old + (value >> bits(operand, 55, 59))
 }
 
-fn fms64_lanes(operand: u64) -> Vec<Lane> {
+fn fms64_lanes(operand: u64, rows: &Range<usize>) -> Vec<Lane> {
+    let (x_on, y_on) = (|i: &usize| side_mask(operand, true, *i, 8), |j: &usize| side_mask(operand, false, *j, 8));
     let z_row = bits(operand, 20, 25);
+    let lane = |row, i, j| Lane { row, lane: i, bytes: 8, vector: 0, x: i, y: j };
+    if bit(operand, 63) {
+        return (0..8).filter(x_on).map(|i| lane(z_row, i, i)).collect();
+    }
     let mut enabled = Vec::with_capacity(64);
-    for i in (0..8).filter(|&i| side_mask(operand, true, i, 8)) {
-        if bit(operand, 63) {
-            enabled.push(Lane { row: z_row, lane: i, bytes: 8, vector: 0, x: i, y: i });
-            continue;
-        }
-        for j in (0..8).filter(|&j| side_mask(operand, false, j, 8)) {
-            enabled.push(Lane { row: 8 * j + z_row % 8, lane: i, bytes: 8, vector: 0, x: i, y: j });
-        }
+    for j in (rows.start / 8..rows.end.div_ceil(8)).filter(y_on) {
+        enabled.extend((0..8).filter(x_on).map(|i| lane(8 * j + z_row % 8, i, j)));
     }
     enabled
 }
 
-fn fms64(state: &mut [u8], enabled: &[Lane], operand: u64) {
-    let x = load(&state[..512], bits(operand, 10, 18));
-    let y = load(&state[512..Z], bits(operand, 0, 8));
-    for lane in enabled {
-        let x = u64_in(&x[8 * lane.x..][..8]);
-        let y = u64_in(&y[8 * lane.y..][..8]);
-        let z = u64_in(&state[lane.start()..][..8]);
-        let result = match (bit(operand, 29), bit(operand, 28), bit(operand, 27)) {
-            (false, _, false) => DOUBLE.difference(z, x), // Y is skipped: it is not done otherwise
-            (false, _, true) => DOUBLE.negated(x),
-            (true, false, false) => DOUBLE.difference(z, y),
-            (true, false, true) => DOUBLE.negated(y),
-            (true, true, false) => z,
-            (true, true, true) => DOUBLE.sign(), // -0
-        };
-        store(state, lane, result as i64);
+fn fms64(operand: u64, x: u64, y: u64, z: u64) -> u64 {
+    match (bit(operand, 29), bit(operand, 28), bit(operand, 27)) {
+        (false, _, false) => DOUBLE.difference(z, x), // Y is skipped: it is not done otherwise
+        (false, _, true) => DOUBLE.negated(x),
+        (true, false, false) => DOUBLE.difference(z, y),
+        (true, false, true) => DOUBLE.negated(y),
+        (true, true, false) => z,
+        (true, true, true) => DOUBLE.sign(), // -0
     }
 }
 
@@ -324,8 +433,11 @@ fn enable(generation: u64, operand: u64) -> Option<(usize, usize)> {
     (!several_vectors(generation, operand)).then(|| (bits(operand, 38, 40), bits(operand, 32, 37)))
 }
 
-fn output_forced_to_0(generation: u64, operand: u64) -> bool {
-    broadcast(generation, operand) == Some(1) || enable(generation, operand) == Some((0, 3))
+/// Whether a step stores 0 whatever there is.
+fn forced_to_0(instruction: u64, generation: u64, operand: u64) -> bool {
+    let operand = read_bits(instruction, operand);
+    let forced = broadcast(generation, operand) == Some(1) || enable(generation, operand) == Some((0, 3));
+    matches!(instruction, 18 | 19) && forced
 }
 
 fn vector_mask(mode: usize, n: usize, i: usize, count: usize) -> bool {
@@ -337,35 +449,40 @@ fn vector_mask(mode: usize, n: usize, i: usize, count: usize) -> bool {
     }
 }
 
-fn vecint_lanes(generation: u64, operand: u64) -> Vec<Lane> {
-    let (x_bits, y_bits, z_bits) = if alu_mode(operand) == 4 {
+/// The bits of an X, a Y and a Z lane of a step that is done.
+pub fn lane_bits(instruction: u64, operand: u64) -> (usize, usize, usize) {
+    let alike = |bits| (bits, bits, bits);
+    match instruction {
+        11 => alike(64),
+        14 if !bit(operand, 63) && bit(operand, 62) => (16, 16, 32),
+        14 => alike(16),
+        19 => alike(float_format(operand).bits as usize),
         // Z alone: its own width masks it, and it has no group of rows
-        let z = reduced_widths(operand).0;
-        (z, z, z)
-    } else {
-        widths(operand)
-    };
-    vector_lanes(generation, operand, x_bits, y_bits, z_bits)
+        _ if alu_mode(operand) == 4 => alike(reduced_widths(operand).0),
+        _ => widths(operand),
+    }
 }
 
-/// vecfp's lanes are of one width, and a vector has one row.
-fn vecfp_lanes(generation: u64, operand: u64) -> Vec<Lane> {
-    let bits = float_format(operand).bits as usize;
-    vector_lanes(generation, without_bit_37(operand), bits, bits, bits)
-}
-
-/// The enabled lanes of one vector, two or four, by the bits of an X, a Y and a Z lane.
-fn vector_lanes(generation: u64, operand: u64, x_bits: usize, y_bits: usize, z_bits: usize) -> Vec<Lane> {
-    let (vectors, stride) = match (several_vectors(generation, operand), bit(operand, 25)) {
+/// How many vectors there are, and the rows from one to the next.
+fn vectors(generation: u64, operand: u64) -> (usize, usize) {
+    match (several_vectors(generation, operand), bit(operand, 25)) {
         (false, _) => (1, 64),
         (true, false) => (2, 32),
         (true, true) => (4, 16),
-    };
+    }
+}
+
+/// The enabled lanes of one vector, two or four, by the bits of an X, a Y and a Z lane; of vectors with no place in the rows, none.
+fn vector_lanes(generation: u64, operand: u64, (x_bits, y_bits, z_bits): (usize, usize, usize), rows: &Range<usize>) -> Vec<Lane> {
+    let (vectors, stride) = vectors(generation, operand);
     let narrower = x_bits.min(y_bits);
     let group = z_bits / narrower;
     let mut enabled = Vec::with_capacity(256);
     for vector in 0..vectors {
-        let row = bits(operand, 20, 25) % stride + stride * vector;
+        let row = (bits(operand, 20, 25) % stride + stride * vector) / group * group;
+        if row + group <= rows.start || rows.end <= row {
+            continue;
+        }
         for k in 0..512 / narrower {
             let (mut x, mut y) = (k * narrower / x_bits, k * narrower / y_bits);
             if let Some((mode, n)) = enable(generation, operand) {
@@ -382,7 +499,7 @@ fn vector_lanes(generation: u64, operand: u64, x_bits: usize, y_bits: usize, z_b
                 Some(7) => y = 0,
                 _ => {}
             }
-            enabled.push(Lane { row: row / group * group + k % group, lane: k / group, bytes: z_bits / 8, vector, x, y });
+            enabled.push(Lane { row: row + k % group, lane: k / group, bytes: z_bits / 8, vector, x, y });
         }
     }
     enabled
@@ -399,64 +516,98 @@ fn picked(register: &[u8], indices: &[u8; 64], index_bits: usize, lane_bytes: us
     std::array::from_fn(|i| register[lane_bytes * index(i / lane_bytes) + i % lane_bytes])
 }
 
-/// What X or Y gives to each vector; `same` is one register for all of them.
-fn loaded(ring: &[u8], offset: usize, lane_bits: usize, same: bool, indexed: Option<(usize, usize)>) -> [[u8; 64]; 4] {
+/// The bytes of X or of Y, and where in them a step begins to load.
+fn ring(state: &[u8], operand: u64, y: bool) -> (&[u8], usize) {
+    if y { (&state[512..Z], bits(operand, 0, 8)) } else { (&state[..512], bits(operand, 10, 18)) }
+}
+
+/// X or Y of a mac16 or an fms64. An i8 is the low byte of its 16-bit lane.
+fn matrix_side(state: &[u8], instruction: u64, operand: u64, y: bool) -> Side {
+    let (ring, offset) = ring(state, operand, y);
+    let vector = [load(ring, offset)].into_iter();
+    match (instruction, bit(operand, if y { 60 } else { 61 })) {
+        (11, _) => Side::new(vector, 8, 8, false),
+        (_, true) => Side::new(vector, 2, 1, true),
+        (_, false) => Side::new(vector, 2, 2, true),
+    }
+}
+
+/// X or Y of a vecint or a vecfp. A side that reads as 0 is all bytes 0, which is +0 of floats; so is one that is not used.
+fn vector_side(state: &[u8], instruction: u64, generation: u64, operand: u64, y: bool) -> Side {
+    let (ring, offset) = ring(state, operand, y);
+    let (x_bits, y_bits, _) = lane_bits(instruction, operand);
+    let [uses_x, uses_y, _] = uses(instruction, generation, operand);
+    let (lane_bits, used, signed) = if y { (y_bits, uses_y, bit(operand, 26)) } else { (x_bits, uses_x, bit(operand, 63)) };
+    // the modes that read it as 0, repeat it, and repeat its lane 0
+    let [zero, same, lane_0] = if y { [5, 3, 7] } else { [4, 2, 6] };
+    let (broadcast, indexed) = (broadcast(generation, operand), indexed(operand, y));
+    let reads_as_0 = broadcast == Some(zero) || enable(generation, operand) == Some((0, zero));
     let advance = match indexed {
-        _ if same => 0,
+        _ if broadcast == Some(same) || broadcast == Some(lane_0) => 0,
         Some((index_bits, _)) => 64 * index_bits / lane_bits,
         None => 64,
     };
-    std::array::from_fn(|vector| {
-        let bytes = load(ring, offset + advance * vector);
-        match indexed {
-            Some((index_bits, register)) => picked(&ring[64 * register..][..64], &bytes, index_bits, lane_bits / 8),
-            None => bytes,
+    let vector = |vector| match indexed {
+        _ if reads_as_0 || !used => [0; 64],
+        Some((index_bits, register)) => {
+            picked(&ring[64 * register..][..64], &load(ring, offset + advance * vector), index_bits, lane_bits / 8)
         }
-    })
+        None => load(ring, offset + advance * vector),
+    };
+    let vectors = (0..vectors(generation, operand).0).map(vector);
+    Side::new(vectors, lane_bits / 8, lane_bits / 8, signed && instruction == 18)
 }
 
-/// What X and Y give to each vector. A side that reads as 0 is all bytes 0, which is +0 of floats.
-fn sides(state: &[u8], generation: u64, operand: u64, x_bits: usize, y_bits: usize) -> ([[u8; 64]; 4], [[u8; 64]; 4]) {
-    let (broadcast, enable) = (broadcast(generation, operand), enable(generation, operand));
-    let x_read_as_0 = broadcast == Some(4) || enable == Some((0, 4));
-    let y_read_as_0 = broadcast == Some(5) || enable == Some((0, 5));
-    let (same_x, same_y) = (matches!(broadcast, Some(2 | 6)), matches!(broadcast, Some(3 | 7)));
-    let x = loaded(&state[..512], bits(operand, 10, 18), x_bits, same_x, indexed(operand, false));
-    let y = loaded(&state[512..Z], bits(operand, 0, 8), y_bits, same_y, indexed(operand, true));
-    (if x_read_as_0 { [[0; 64]; 4] } else { x }, if y_read_as_0 { [[0; 64]; 4] } else { y })
-}
-
-fn vecint(state: &mut [u8], enabled: &[Lane], generation: u64, operand: u64) {
-    let mode = alu_mode(operand);
+fn vecint(operand: u64, x: i64, y: i64, z: i64) -> i64 {
     let shift = bits(operand, 58, 62);
-    if output_forced_to_0(generation, operand) {
-        return enabled.iter().for_each(|lane| store(state, lane, 0));
+    match alu_mode(operand) {
+        0 => z + ((x * y) >> shift),
+        1 => z - ((x * y) >> shift),
+        2 => z + ((x + y) >> shift),
+        3 => z - ((x + y) >> shift),
+        4 if bit(operand, 29) && shift > 0 => (z + (1 << (shift - 1))) >> shift,
+        4 => z >> shift,
+        5 => z + ((x * y + 16_384) >> 15),
+        6 => z - ((x * y + 16_384) >> 15),
+        10 => (x * y) >> shift,
+        11 => z + (x >> shift),
+        _ => z + (y >> shift), // 12: the others are not done
     }
-    if mode == 4 {
-        return enabled.iter().for_each(|lane| {
-            let z = number(&state[lane.start()..][..lane.bytes], bit(operand, 63));
-            store(state, lane, reduced(z, shift, operand));
-        });
+}
+
+/// The least and the greatest number that a step stores, where it clamps: vecint in modes 5 and 6, and in mode 4 where asked.
+pub fn clamp(instruction: u64, operand: u64) -> Option<(i64, i64)> {
+    let signed = |bits: usize| (-(1 << (bits - 1)), (1 << (bits - 1)) - 1);
+    let saturation = reduced_widths(operand).1;
+    match (instruction, alu_mode(operand)) {
+        (18, 4) if !bit(operand, 30) => None,
+        (18, 4) if bit(operand, 26) => Some(signed(saturation)),
+        (18, 4) => Some((0, (1 << saturation) - 1)),
+        (18, 5 | 6) => Some(signed(16)),
+        _ => None,
     }
-    let (x_bits, y_bits, _) = widths(operand);
-    let (x, y) = sides(state, generation, operand, x_bits, y_bits);
-    let (x_bytes, y_bytes) = (x_bits / 8, y_bits / 8);
-    for lane in enabled {
-        let x = number(&x[lane.vector][x_bytes * lane.x..][..x_bytes], bit(operand, 63));
-        let y = number(&y[lane.vector][y_bytes * lane.y..][..y_bytes], bit(operand, 26));
-        let z = number(&state[lane.start()..][..lane.bytes], true);
-        let result = match mode {
-            0 => z + ((x * y) >> shift),
-            1 => z - ((x * y) >> shift),
-            2 => z + ((x + y) >> shift),
-            3 => z - ((x + y) >> shift),
-            5 => (z + ((x * y + 16_384) >> 15)).clamp(-32_768, 32_767),
-            6 => (z - ((x * y + 16_384) >> 15)).clamp(-32_768, 32_767),
-            10 => (x * y) >> shift,
-            11 => z + (x >> shift),
-            _ => z + (y >> shift), // 12: the others are not done
-        };
-        store(state, lane, result);
+}
+
+/// Whether the operation of a step that is done uses X, Y and what the lane had. One that reads as 0 is used.
+pub fn uses(instruction: u64, generation: u64, operand: u64) -> [bool; 3] {
+    let mode = alu_mode(operand);
+    match instruction {
+        _ if forced_to_0(instruction, generation, operand) => [false; 3],
+        11 | 14 => [!bit(operand, 29), !bit(operand, 28), !bit(operand, 27)],
+        18 if mode == 4 => [false, false, true],
+        18 => [mode != 12, mode != 11, mode != 10],
+        _ => [mode != 12, mode != 11, matches!(mode, 11 | 12)],
+    }
+}
+
+/// Whether a step takes its Z lanes for signed numbers: what was there, and what it leaves there.
+pub fn z_signs(instruction: u64, operand: u64) -> (bool, bool) {
+    let z_signed = bit(operand, 63);
+    match instruction {
+        14 => (true, true),
+        18 if alu_mode(operand) != 4 => (true, true),
+        18 => (z_signed, if bit(operand, 30) { bit(operand, 26) } else { z_signed }),
+        _ => (false, false), // patterns
     }
 }
 
@@ -465,43 +616,14 @@ fn float_format(operand: u64) -> Format {
     if bits(operand, 42, 45) == 4 { SINGLE } else { DOUBLE }
 }
 
-/// vecfp ignores the highest bit of what is vecint's enable value.
-fn without_bit_37(operand: u64) -> u64 {
-    operand & !(1 << 37)
-}
-
-fn vecfp(state: &mut [u8], enabled: &[Lane], generation: u64, operand: u64) {
-    let operand = without_bit_37(operand);
-    if output_forced_to_0(generation, operand) {
-        return enabled.iter().for_each(|lane| store(state, lane, 0));
-    }
+fn vecfp(operand: u64, x: u64, y: u64, z: u64) -> u64 {
     let format = float_format(operand);
-    let (lane_bits, bytes) = (format.bits as usize, format.bits as usize / 8);
-    let (x, y) = sides(state, generation, operand, lane_bits, lane_bits);
-    for lane in enabled {
-        let x = u64_in(&x[lane.vector][bytes * lane.x..][..bytes]);
-        let y = u64_in(&y[lane.vector][bytes * lane.y..][..bytes]);
-        let z = u64_in(&state[lane.start()..][..bytes]);
-        let result = match alu_mode(operand) {
-            4 if format.at_most_0(x) => 0,
-            4 => y,
-            10 => format.product(x, y),
-            11 => format.sum(z, x),
-            _ => format.sum(z, y), // 12: the others are not done
-        };
-        store(state, lane, result as i64);
-    }
-}
-
-/// Mode 4: shifted, rounded where asked, clamped where asked.
-fn reduced(z: i64, shift: usize, operand: u64) -> i64 {
-    let rounding = if bit(operand, 29) && shift > 0 { 1 << (shift - 1) } else { 0 };
-    let shifted = (z + rounding) >> shift;
-    let saturation = reduced_widths(operand).1;
-    match (bit(operand, 30), bit(operand, 26)) {
-        (false, _) => shifted,
-        (true, true) => shifted.clamp(-(1 << (saturation - 1)), (1 << (saturation - 1)) - 1),
-        (true, false) => shifted.clamp(0, (1 << saturation) - 1),
+    match alu_mode(operand) {
+        4 if format.at_most_0(x) => 0,
+        4 => y,
+        10 => format.product(x, y),
+        11 => format.sum(z, x),
+        _ => format.sum(z, y), // 12: the others are not done
     }
 }
 
