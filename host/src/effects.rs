@@ -1,7 +1,4 @@
-use crate::{
-    Call, Instruction, State, reference,
-    rounding::{DOUBLE, Format, SINGLE},
-};
+use crate::{Call, Instruction, LaneType, State, reference};
 use std::{fmt, ops::Range};
 
 /// What a step does to a Z lane that it enables: the numbers that come together there, and what becomes of them.
@@ -79,6 +76,7 @@ pub enum Kept {
 /// assert_eq!(effects[0].old, Some(Value::Integer(-32_765)));
 /// assert_eq!((effects[0].result, effects[0].new), (Value::Integer(-32_771), Value::Integer(32_765)));
 /// assert_eq!(effects[0].kept, Kept::Wrapped);
+/// assert_eq!(effects[0].to_string(), "x 3, y -2, z -32765 gives -32771, wrapped to 32765");
 /// # Ok::<(), amx::FieldError>(())
 /// ```
 pub fn effects(state: &State, call: Call) -> Vec<LaneEffect> {
@@ -136,21 +134,25 @@ impl fmt::Display for Value {
     fn fmt(&self, f: &mut fmt::Formatter) -> fmt::Result {
         match *self {
             Value::Integer(number) => number.fmt(f),
-            Value::Single(pattern) => write_float(f, SINGLE, pattern.into(), f32::from_bits(pattern)),
-            Value::Double(pattern) => write_float(f, DOUBLE, pattern, f64::from_bits(pattern)),
+            Value::Single(pattern) => f.pad(&LaneType::F32.print(&pattern.to_le_bytes())),
+            Value::Double(pattern) => f.pad(&LaneType::F64.print(&pattern.to_le_bytes())),
         }
     }
 }
 
-/// A float in the fewest digits that tell it, by its exponent where it is far from 1; a NaN has more patterns than its name tells.
-fn write_float(f: &mut fmt::Formatter, format: Format, pattern: u64, float: impl fmt::Debug) -> fmt::Result {
-    let magnitude = pattern & !format.sign();
-    match magnitude > format.infinity() {
-        true if pattern == format.default_nan() => f.pad("nan"),
-        true => f.pad(&format!("{pattern:#x}")),
-        false => {
-            let digits = format!("{float:?}");
-            f.pad(digits.strip_suffix(".0").unwrap_or(&digits))
+/// `x 3, y -2, z 10 gives 4`, with what was wrapped or clamped.
+impl fmt::Display for LaneEffect {
+    fn fmt(&self, f: &mut fmt::Formatter) -> fmt::Result {
+        let used = [("x", self.x), ("y", self.y), ("z", self.old)];
+        let used: Vec<String> = used.iter().filter_map(|(name, value)| value.map(|value| format!("{name} {value}"))).collect();
+        match used.is_empty() {
+            true => write!(f, "it becomes {}", self.result)?,
+            false => write!(f, "{} gives {}", used.join(", "), self.result)?,
+        }
+        match self.kept {
+            Kept::Exact => Ok(()),
+            Kept::Clamped => write!(f, ", clamped to {}", self.new),
+            Kept::Wrapped => write!(f, ", wrapped to {}", self.new),
         }
     }
 }

@@ -235,12 +235,13 @@ struct Side {
 
 impl Side {
     /// Lanes of so many bytes; of each, the low ones that are read make the number.
-    fn new(vectors: impl Iterator<Item = [u8; 64]>, bytes: usize, read: usize, signed: bool) -> Self {
-        let mut numbers = Vec::with_capacity(256);
+    fn new(vectors: impl ExactSizeIterator<Item = [u8; 64]>, bytes: usize, read: usize, signed: bool) -> Self {
+        let lanes = 64 / bytes;
+        let mut numbers = Vec::with_capacity(lanes * vectors.len());
         for vector in vectors {
             numbers.extend(vector.chunks_exact(bytes).map(|lane| number(&lane[..read], signed)));
         }
-        Side { lanes: 64 / bytes, numbers }
+        Side { lanes, numbers }
     }
 
     fn lane(&self, vector: usize, lane: usize) -> i64 {
@@ -287,7 +288,7 @@ fn read_bits(instruction: u64, operand: u64) -> u64 {
 }
 
 /// 64 bytes of X or Y, round the 512-byte ring.
-fn load(ring: &[u8], offset: usize) -> [u8; 64] {
+fn load(ring: &[u8; 512], offset: usize) -> [u8; 64] {
     std::array::from_fn(|i| ring[(offset + i) % 512])
 }
 
@@ -368,10 +369,11 @@ fn fms64_lanes(operand: u64, rows: &Range<usize>) -> Vec<Lane> {
     let (x_on, y_on) = (|i: &usize| side_mask(operand, true, *i, 8), |j: &usize| side_mask(operand, false, *j, 8));
     let z_row = bits(operand, 20, 25);
     let lane = |row, i, j| Lane { row, lane: i, bytes: 8, vector: 0, x: i, y: j };
-    if bit(operand, 63) {
-        return (0..8).filter(x_on).map(|i| lane(z_row, i, i)).collect();
-    }
     let mut enabled = Vec::with_capacity(64);
+    if bit(operand, 63) {
+        enabled.extend((0..8).filter(x_on).map(|i| lane(z_row, i, i)));
+        return enabled;
+    }
     for j in (rows.start / 8..rows.end.div_ceil(8)).filter(y_on) {
         enabled.extend((0..8).filter(x_on).map(|i| lane(8 * j + z_row % 8, i, j)));
     }
@@ -517,8 +519,9 @@ fn picked(register: &[u8], indices: &[u8; 64], index_bits: usize, lane_bytes: us
 }
 
 /// The bytes of X or of Y, and where in them a step begins to load.
-fn ring(state: &[u8], operand: u64, y: bool) -> (&[u8], usize) {
-    if y { (&state[512..Z], bits(operand, 0, 8)) } else { (&state[..512], bits(operand, 10, 18)) }
+fn ring(state: &[u8], operand: u64, y: bool) -> (&[u8; 512], usize) {
+    let (start, offset) = if y { (512, bits(operand, 0, 8)) } else { (0, bits(operand, 10, 18)) };
+    (state[start..].first_chunk().expect("the state has its length"), offset)
 }
 
 /// X or Y of a mac16 or an fms64. An i8 is the low byte of its 16-bit lane.
@@ -532,7 +535,7 @@ fn matrix_side(state: &[u8], instruction: u64, operand: u64, y: bool) -> Side {
     }
 }
 
-/// X or Y of a vecint or a vecfp. A side that reads as 0 is all bytes 0, which is +0 of floats; so is one that is not used.
+/// X or Y of a vecint or a vecfp. A side that reads as 0 is all 0, which is +0 of floats; so is one that is not used.
 fn vector_side(state: &[u8], instruction: u64, generation: u64, operand: u64, y: bool) -> Side {
     let (ring, offset) = ring(state, operand, y);
     let (x_bits, y_bits, _) = lane_bits(instruction, operand);
@@ -542,20 +545,23 @@ fn vector_side(state: &[u8], instruction: u64, generation: u64, operand: u64, y:
     let [zero, same, lane_0] = if y { [5, 3, 7] } else { [4, 2, 6] };
     let (broadcast, indexed) = (broadcast(generation, operand), indexed(operand, y));
     let reads_as_0 = broadcast == Some(zero) || enable(generation, operand) == Some((0, zero));
+    let (vectors, lanes) = (vectors(generation, operand).0, 512 / lane_bits);
+    if reads_as_0 || !used {
+        return Side { lanes, numbers: vec![0; lanes * vectors] };
+    }
     let advance = match indexed {
         _ if broadcast == Some(same) || broadcast == Some(lane_0) => 0,
         Some((index_bits, _)) => 64 * index_bits / lane_bits,
         None => 64,
     };
-    let vector = |vector| match indexed {
-        _ if reads_as_0 || !used => [0; 64],
-        Some((index_bits, register)) => {
-            picked(&ring[64 * register..][..64], &load(ring, offset + advance * vector), index_bits, lane_bits / 8)
+    let vector = |vector| {
+        let bytes = load(ring, offset + advance * vector);
+        match indexed {
+            Some((index_bits, register)) => picked(&ring[64 * register..][..64], &bytes, index_bits, lane_bits / 8),
+            None => bytes,
         }
-        None => load(ring, offset + advance * vector),
     };
-    let vectors = (0..vectors(generation, operand).0).map(vector);
-    Side::new(vectors, lane_bits / 8, lane_bits / 8, signed && instruction == 18)
+    Side::new((0..vectors).map(vector), lane_bits / 8, lane_bits / 8, signed && instruction == 18)
 }
 
 fn vecint(operand: u64, x: i64, y: i64, z: i64) -> i64 {

@@ -83,6 +83,17 @@ impl Register {
     }
 }
 
+/// `x 0`, as in texts.
+impl fmt::Display for Register {
+    fn fmt(&self, f: &mut fmt::Formatter) -> fmt::Result {
+        match self {
+            Register::X(number) => write!(f, "x {number}"),
+            Register::Y(number) => write!(f, "y {number}"),
+            Register::Z(number) => write!(f, "z {number}"),
+        }
+    }
+}
+
 impl State {
     /// All bytes 0.
     pub fn new() -> Self {

@@ -394,8 +394,12 @@ fn help_says_all_of_it_and_wrong_words_are_refused() {
             }
         }
     }
-    fails(USAGE, &[], "expected a command: asm, dis, run, cut, explain, lanes\n\namx: the proved AMX unit");
-    fails(USAGE, &["assemble"], "expected a command (asm, dis, run, cut, explain, lanes), not \"assemble\"; amx --help tells more");
+    fails(USAGE, &[], "expected a command: run, why, diff, asm, dis, cut, explain, lanes\n\namx: the proved AMX unit");
+    fails(
+        USAGE,
+        &["assemble"],
+        "expected a command (run, why, diff, asm, dis, cut, explain, lanes), not \"assemble\"; amx --help tells more",
+    );
     fails(USAGE, &["asm", "text"], "expected asm TEXT -o TRACE: -o is missing");
     fails(USAGE, &["dis"], "expected dis TRACE [--as TYPE]: there are 0 words");
     fails(USAGE, &["run"], "expected run FILE [--as TYPE | --matrix] [--strict] [--summary | --json]: there are 0 words");

@@ -234,17 +234,12 @@ pub(super) fn print_state(state: &State, form: Option<LaneType>) -> String {
 /// Where the last lane has fewer bytes than its type, as a slice does.
 pub fn print_register(register: Register, row: &[u8], form: Option<LaneType>) -> String {
     let end = row.iter().rposition(|&byte| byte != 0).map_or(1, |last| last + 1);
-    let place = match register {
-        Register::X(n) => format!("x {n}"),
-        Register::Y(n) => format!("y {n}"),
-        Register::Z(n) => format!("z {n}"),
-    };
     match form {
-        None => format!("{place} hex: {}", row[..end].iter().map(|byte| format!("{byte:02x}")).collect::<String>()),
+        None => format!("{register} hex: {}", row[..end].iter().map(|byte| format!("{byte:02x}")).collect::<String>()),
         Some(lane_type) => {
             let lanes = row.chunks(lane_type.bytes()).take(end.div_ceil(lane_type.bytes()));
             let words: Vec<String> = lanes.map(|lane| lane_type.print(lane)).collect();
-            format!("{place} {lane_type}: {}", words.join(" "))
+            format!("{register} {lane_type}: {}", words.join(" "))
         }
     }
 }

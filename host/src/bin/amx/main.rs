@@ -1,13 +1,16 @@
 //! The command `amx`: steps as text, trace files, and operands explained.
 mod arguments;
+mod diff;
 mod failure;
 mod input;
 mod json;
+mod lane;
 mod output;
 mod progress;
 mod run;
 mod summary;
 mod traces;
+mod why;
 
 use crate::{
     arguments::{Arguments, Options},
@@ -25,10 +28,12 @@ const HELP: &str = include_str!("help.txt");
 /// A command, with its options and what does it.
 type Command = (&'static str, Options, fn(&Arguments) -> Result<Status, Failure>);
 
-const COMMANDS: [Command; 6] = [
+const COMMANDS: [Command; 8] = [
+    ("run", run::OPTIONS, run::run),
+    ("why", why::OPTIONS, why::why),
+    ("diff", diff::OPTIONS, diff::diff),
     ("asm", traces::ASM, traces::assemble),
     ("dis", traces::DIS, traces::disassemble),
-    ("run", run::OPTIONS, run::run),
     ("cut", traces::CUT, traces::cut),
     ("explain", Options { usage: "explain INSTRUCTION GENERATION OPERAND, or a step as in a text", alone: &[], valued: &[] }, explain_step),
     ("lanes", Options { usage: "lanes INSTRUCTION GENERATION OPERAND, or a step as in a text", alone: &[], valued: &[] }, show_lanes),
