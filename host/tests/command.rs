@@ -383,7 +383,7 @@ fn indexed_loads_are_assembled_run_and_taken_apart() {
 #[test]
 fn help_says_all_of_it_and_wrong_words_are_refused() {
     let help = said(&["--help"]);
-    for word in ["amx asm", "amx dis", "amx run", "amx cut", "amx explain", "amx lanes"] {
+    for word in ["amx run", "amx why", "amx diff", "amx picture", "amx asm", "amx dis", "amx cut", "amx explain", "amx lanes"] {
         assert!(help.contains(word));
     }
     // every field by its name
@@ -394,11 +394,11 @@ fn help_says_all_of_it_and_wrong_words_are_refused() {
             }
         }
     }
-    fails(USAGE, &[], "expected a command: run, why, diff, asm, dis, cut, explain, lanes\n\namx: the proved AMX unit");
+    fails(USAGE, &[], "expected a command: run, why, diff, picture, asm, dis, cut, explain, lanes\n\namx: the proved AMX unit");
     fails(
         USAGE,
         &["assemble"],
-        "expected a command (run, why, diff, asm, dis, cut, explain, lanes), not \"assemble\"; amx --help tells more",
+        "expected a command (run, why, diff, picture, asm, dis, cut, explain, lanes), not \"assemble\"; amx --help tells more",
     );
     fails(USAGE, &["asm", "text"], "expected asm TEXT -o TRACE: -o is missing");
     fails(USAGE, &["dis"], "expected dis TRACE [--as TYPE]: there are 0 words");

@@ -6,6 +6,7 @@ mod input;
 mod json;
 mod lane;
 mod output;
+mod picture;
 mod progress;
 mod run;
 mod summary;
@@ -28,10 +29,11 @@ const HELP: &str = include_str!("help.txt");
 /// A command, with its options and what does it.
 type Command = (&'static str, Options, fn(&Arguments) -> Result<Status, Failure>);
 
-const COMMANDS: [Command; 8] = [
+const COMMANDS: [Command; 9] = [
     ("run", run::OPTIONS, run::run),
     ("why", why::OPTIONS, why::why),
     ("diff", diff::OPTIONS, diff::diff),
+    ("picture", picture::OPTIONS, picture::picture),
     ("asm", traces::ASM, traces::assemble),
     ("dis", traces::DIS, traces::disassemble),
     ("cut", traces::CUT, traces::cut),
