@@ -66,5 +66,5 @@ fn the_examples_print_what_the_page_says() {
         assert_eq!(said, printed, "{typed}");
         tried += 1;
     }
-    assert!(tried >= 12, "only {tried} examples were found");
+    assert!(tried >= 20, "only {tried} examples were found");
 }

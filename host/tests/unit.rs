@@ -32,6 +32,9 @@ fn an_output_says_whose_steps_it_has() {
     }
     let json = String::from_utf8(amx(&["run", "--json", name(&trace)]).stdout).unwrap();
     let version = String::from_utf8(amx(&["--version"]).stdout).unwrap();
-    assert_eq!((json.contains("\"unit\":\"the proved unit\""), version.contains("on the proved unit")), (PROVED, PROVED));
+    assert_eq!(
+        (json.contains("\"unit\":\"the proved unit\""), version == concat!("amx ", env!("CARGO_PKG_VERSION"), " (the proved unit)\n")),
+        (PROVED, PROVED)
+    );
     assert_eq!((json.contains(note), version.contains(note)), (!PROVED, !PROVED));
 }

@@ -63,7 +63,8 @@ fn command(words: &[String]) -> Result<Status, Failure> {
         return print(HELP);
     }
     if asks(&["--version", "-V"]) {
-        return print(&format!("amx {} on {}\n", env!("CARGO_PKG_VERSION"), UNIT_NOTE.unwrap_or("the proved unit")));
+        writeln!(io::stdout(), "amx {} ({})", env!("CARGO_PKG_VERSION"), UNIT_NOTE.unwrap_or("the proved unit"))?;
+        return Ok(Status::Ran);
     }
     let Some((first, words)) = words.split_first() else {
         return Err(Failure::Usage(format!("expected a command: {}\n\n{HELP}", names())));
