@@ -3,7 +3,11 @@ mod common;
 
 use amx::{PROVED, UNIT_NOTE};
 use common::{Room, name};
-use std::process::{Command, Output};
+use std::{
+    fs,
+    path::Path,
+    process::{Command, Output},
+};
 
 fn amx(arguments: &[&str]) -> Output {
     Command::new(env!("CARGO_BIN_EXE_amx")).args(arguments).output().unwrap()
@@ -37,4 +41,15 @@ fn an_output_says_whose_steps_it_has() {
         (PROVED, PROVED)
     );
     assert_eq!((json.contains(note), version.contains(note)), (!PROVED, !PROVED));
+}
+
+/// `cargo install` takes every program of the package: those that compare and time are in another.
+#[test]
+fn the_package_has_no_other_program() {
+    let package = Path::new(env!("CARGO_MANIFEST_DIR"));
+    let programs: Vec<_> = fs::read_dir(package.join("src/bin")).unwrap().map(|entry| entry.unwrap().file_name()).collect();
+    assert_eq!(programs, ["amx"]);
+    let manifest = fs::read_to_string(package.join("Cargo.toml")).unwrap();
+    assert!(!package.join("src/main.rs").exists() && !manifest.contains("[[bin]]"));
+    assert!(package.join("checks/src/bin/compare/main.rs").exists() && package.join("checks/src/bin/speed.rs").exists());
 }

@@ -186,12 +186,13 @@ struct Lines {
     line: Vec<u8>,
     assembler: Assembler,
     lines: usize,
-    bytes: u64,
+    /// The bytes that may still come.
+    left: u64,
 }
 
 impl Lines {
     fn new(name: String, file: File) -> Self {
-        Lines { name, file: BufReader::new(file), line: Vec::new(), assembler: Assembler::new(), lines: 0, bytes: 0 }
+        Lines { name, file: BufReader::new(file), line: Vec::new(), assembler: Assembler::new(), lines: 0, left: MAX_TEXT }
     }
 
     /// Takes the next line; false at the end.
@@ -200,11 +201,12 @@ impl Lines {
         // a line that is cut here is too long, and the assembler says so
         let read = self.file.by_ref().take(MAX_LINE as u64 + 2).read_until(b'\n', &mut self.line);
         let read = read.map_err(|error| Failure::of_file(&self.name, error))?;
-        (self.lines, self.bytes) = (self.lines + 1, self.bytes + read as u64);
+        let fits = read as u64 <= self.left;
+        (self.lines, self.left) = (self.lines + 1, self.left.saturating_sub(read as u64));
         let wrong = |expected: String| TextError { line: self.lines, rounds: Vec::new(), expected };
         let taken = match str::from_utf8(&self.line) {
             _ if read == 0 => return Ok(false),
-            _ if self.bytes > MAX_TEXT => Err(wrong(format!("a text has at most {MAX_TEXT} bytes"))),
+            _ if !fits => Err(wrong(format!("a text has at most {MAX_TEXT} bytes"))),
             Ok(line) => self.assembler.line(line),
             Err(_) if read > MAX_LINE + 1 => self.assembler.line(&String::from_utf8_lossy(&self.line)),
             Err(_) => Err(wrong("expected a text in UTF-8".to_owned())),
@@ -232,5 +234,25 @@ impl Iterator for Lines {
 
     fn next(&mut self) -> Option<Self::Item> {
         self.item().transpose()
+    }
+}
+
+#[cfg(test)]
+mod tests {
+    use super::*;
+
+    #[test]
+    fn what_does_not_end_is_kept_and_read_up_to_a_bound() {
+        let mut file = keep(&mut io::repeat(b'#'), 1_000).unwrap();
+        assert_eq!(file.read_to_end(&mut Vec::new()).unwrap(), 1_001);
+        let text = "# ten bytes".as_bytes()[..9].iter().chain(b"\n").copied().collect::<Vec<u8>>();
+        for (lines, fits) in [(100, true), (101, false)] {
+            let file = keep(&mut Cursor::new(text.repeat(lines)), 2_000).unwrap();
+            let mut lines = Lines { left: 1_000, ..Lines::new("text".to_owned(), file) };
+            let end = lines.next();
+            assert_eq!(end.is_none(), fits);
+            let told = end.and_then(Result::err).map(|failure| failure.to_string());
+            assert!(fits || told == Some("text, line 101: a text has at most 268435456 bytes".to_owned()), "{told:?}");
+        }
     }
 }
