@@ -227,7 +227,8 @@ struct Loaded {
     y: Side,
 }
 
-/// The numbers of X or Y, vector by vector; those of floats are patterns.
+/// The numbers of X or Y, vector by vector; those of floats are patterns. A side that is not read, or reads as 0, has none.
+#[derive(Default)]
 struct Side {
     lanes: usize,
     numbers: Vec<i64>,
@@ -245,19 +246,22 @@ impl Side {
     }
 
     fn lane(&self, vector: usize, lane: usize) -> i64 {
-        self.numbers[self.lanes * vector + lane]
+        self.numbers.get(self.lanes * vector + lane).copied().unwrap_or(0)
     }
 }
 
 impl Loaded {
     fn new(state: &[u8], instruction: u64, generation: u64, operand: u64) -> Self {
         let operand = read_bits(instruction, operand);
-        let side = |y| match instruction {
+        let [uses_x, uses_y, _] = uses(instruction, generation, operand);
+        let side = |y, used: bool| match instruction {
+            _ if !used => Side::default(),
             11 | 14 => matrix_side(state, instruction, operand, y),
             _ => vector_side(state, instruction, generation, operand, y),
         };
+        let (x, y) = (side(false, uses_x), side(true, uses_y));
         let (forced_to_0, clamp) = (forced_to_0(instruction, generation, operand), clamp(instruction, operand));
-        Loaded { instruction, operand, forced_to_0, clamp, z_signed: z_signs(instruction, operand).0, x: side(false), y: side(true) }
+        Loaded { instruction, operand, forced_to_0, clamp, z_signed: z_signs(instruction, operand).0, x, y }
     }
 
     /// The numbers of X, Y and Z that come together in a lane.
@@ -310,8 +314,8 @@ fn u64_in(bytes: &[u8]) -> u64 {
 
 /// Stores a result modulo 2 to the lane's width.
 fn store(state: &mut [u8], lane: &Lane, result: i64) {
-    for j in 0..lane.bytes {
-        state[lane.start() + j] = (result >> (8 * j)) as u8;
+    for (byte, stored) in state[lane.start()..][..lane.bytes].iter_mut().zip(result.to_le_bytes()) {
+        *byte = stored;
     }
 }
 
@@ -535,19 +539,17 @@ fn matrix_side(state: &[u8], instruction: u64, operand: u64, y: bool) -> Side {
     }
 }
 
-/// X or Y of a vecint or a vecfp. A side that reads as 0 is all 0, which is +0 of floats; so is one that is not used.
+/// X or Y of a vecint or a vecfp. Of floats, what reads as 0 is +0.
 fn vector_side(state: &[u8], instruction: u64, generation: u64, operand: u64, y: bool) -> Side {
     let (ring, offset) = ring(state, operand, y);
     let (x_bits, y_bits, _) = lane_bits(instruction, operand);
-    let [uses_x, uses_y, _] = uses(instruction, generation, operand);
-    let (lane_bits, used, signed) = if y { (y_bits, uses_y, bit(operand, 26)) } else { (x_bits, uses_x, bit(operand, 63)) };
+    let (lane_bits, signed) = if y { (y_bits, bit(operand, 26)) } else { (x_bits, bit(operand, 63)) };
     // the modes that read it as 0, repeat it, and repeat its lane 0
     let [zero, same, lane_0] = if y { [5, 3, 7] } else { [4, 2, 6] };
     let (broadcast, indexed) = (broadcast(generation, operand), indexed(operand, y));
     let reads_as_0 = broadcast == Some(zero) || enable(generation, operand) == Some((0, zero));
-    let (vectors, lanes) = (vectors(generation, operand).0, 512 / lane_bits);
-    if reads_as_0 || !used {
-        return Side { lanes, numbers: vec![0; lanes * vectors] };
+    if reads_as_0 {
+        return Side::default();
     }
     let advance = match indexed {
         _ if broadcast == Some(same) || broadcast == Some(lane_0) => 0,
@@ -561,7 +563,7 @@ fn vector_side(state: &[u8], instruction: u64, generation: u64, operand: u64, y:
             None => bytes,
         }
     };
-    Side::new((0..vectors).map(vector), lane_bits / 8, lane_bits / 8, signed && instruction == 18)
+    Side::new((0..vectors(generation, operand).0).map(vector), lane_bits / 8, lane_bits / 8, signed && instruction == 18)
 }
 
 fn vecint(operand: u64, x: i64, y: i64, z: i64) -> i64 {
