@@ -205,10 +205,14 @@ impl Explanation {
 
     /// The words of fields that tell where X and Y come from.
     fn load_words(&self, name: &str, value: u64) -> Option<String> {
-        let indexed = self.get("indexed") == 1;
-        let (side, indices) = if self.get("index_y") == 1 { ("Y", "y_offset") } else { ("X", "x_offset") };
-        let [reads_x, reads_y] = self.reads();
-        let reads = if side == "Y" { reads_y } else { reads_x };
+        let Call { instruction, generation, operand } = self.call;
+        let [reads_x, reads_y] = reference::reads(instruction, generation, operand);
+        let [repeats_x, repeats_y] = reference::repeats(generation, operand);
+        let [x_lanes, y_lanes] = self.mask_lanes();
+        let (side, offset, reads, repeats, lanes) = match self.get("index_y") {
+            1 => ("Y", "y_offset", reads_y, repeats_y, y_lanes),
+            _ => ("X", "x_offset", reads_x, repeats_x, x_lanes),
+        };
         match name {
             "x_offset" if !reads_x => Some("not read".to_owned()),
             "y_offset" if !reads_y => Some("not read".to_owned()),
@@ -216,10 +220,8 @@ impl Explanation {
             "index_register" => Some(format!("bytes {}..{} of {side}", 64 * value, 64 * value + 63)),
             "index_4_bits" => Some("lowest bits first".to_owned()),
             "index_y" => Some(format!("element k of {side} is the register's element that the k-th index names")),
-            name if indexed && name == indices => {
+            name if self.get("indexed") == 1 && name == offset => {
                 let index_bits = if self.get("index_4_bits") == 1 { 4 } else { 2 };
-                let repeats = if side == "X" { [2, 6] } else { [3, 7] }.contains(&self.get("broadcast_mode"));
-                let lanes = self.mask_lanes()[usize::from(side == "Y")];
                 Some(index_bytes(lanes * index_bits / 8, self.get("several") == 1, repeats))
             }
             _ => None,
@@ -230,23 +232,6 @@ impl Explanation {
     fn uses(&self) -> [bool; 2] {
         let [x, y, _] = reference::uses(self.call.instruction, self.call.generation, self.call.operand);
         [x, y]
-    }
-
-    /// Whether X and Y are loaded.
-    fn reads(&self) -> [bool; 2] {
-        let reads_as_0 = |n| self.get("broadcast_mode") == n || self.enable() == Some((0, n));
-        let [x, y] = self.uses();
-        [x && !reads_as_0(4), y && !reads_as_0(5)]
-    }
-
-    /// Enable mode and value of one vector, of an instruction that has them.
-    fn enable(&self) -> Option<(u64, u64)> {
-        let value = self.fields.iter().find(|(field, _)| field.name == "enable_value")?.1;
-        Some((self.get("enable_mode"), value))
-    }
-
-    fn is_forced_to_0(&self) -> bool {
-        self.get("broadcast_mode") == 1 || self.enable() == Some((0, 3))
     }
 
     /// The lanes of the masks that are read at X's width and at Y's.
@@ -263,17 +248,18 @@ impl Explanation {
 
     /// What a vecint or a vecfp does in an ALU mode.
     fn operation(&self, mode: u64) -> String {
+        let Call { instruction, generation, operand } = self.call;
         let rounds = self.get("rounding") == 1 && self.get("shift") > 0;
         let operation = match self.instruction {
             Instruction::Vecfp => float_operation(mode),
             _ if mode == 4 && rounds => "(z + 2^(s-1)) >> s",
             _ => operation(mode),
         };
-        let clamp = reference::clamp(self.call.instruction, self.call.operand);
+        let clamp = reference::clamp(instruction, operand);
         let clamp = clamp.map_or(String::new(), |(least, greatest)| format!(", clamped to {least}..{greatest}"));
         let but = match mode {
             10..=12 if self.generation == Generation::M1 => ", not on M1",
-            _ if self.answer.is_done() && self.is_forced_to_0() => ", overridden: the output is 0",
+            _ if self.answer.is_done() && reference::forced_to_0(instruction, generation, operand) => ", overridden: the output is 0",
             _ => "",
         };
         format!("{operation}{clamp}{but}")

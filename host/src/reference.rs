@@ -54,7 +54,7 @@ impl Lane {
 
 /// What a step reads for an enabled lane, and what it gives to it. Numbers of float steps are patterns.
 #[derive(Clone, Copy, Debug, PartialEq, Eq)]
-pub struct Effect {
+pub(crate) struct Effect {
     /// The X number, 0 where X reads as 0; none where the operation does not use X.
     pub x: Option<i64>,
     /// The Y number, likewise.
@@ -188,7 +188,7 @@ fn done(state: &mut [u8], instruction: u64, generation: u64, operand: u64) -> u6
 
 /// What a step that is sent with the serial due does to each lane that it enables and that has a byte in these rows, at these places of the
 /// row; nothing where it isn't done.
-pub fn effects(
+pub(crate) fn effects(
     state: &[u8],
     instruction: u64,
     generation: u64,
@@ -227,7 +227,7 @@ struct Loaded {
     y: Side,
 }
 
-/// The numbers of X or Y, vector by vector; those of floats are patterns. A side that is not read, or reads as 0, has none.
+/// The numbers of X or Y, vector by vector; those of floats are patterns. A side that is not read has none, and is 0, or +0, in every lane.
 #[derive(Default)]
 struct Side {
     lanes: usize,
@@ -253,13 +253,13 @@ impl Side {
 impl Loaded {
     fn new(state: &[u8], instruction: u64, generation: u64, operand: u64) -> Self {
         let operand = read_bits(instruction, operand);
-        let [uses_x, uses_y, _] = uses(instruction, generation, operand);
-        let side = |y, used: bool| match instruction {
-            _ if !used => Side::default(),
+        let [reads_x, reads_y] = reads(instruction, generation, operand);
+        let side = |y, read: bool| match instruction {
+            _ if !read => Side::default(),
             11 | 14 => matrix_side(state, instruction, operand, y),
             _ => vector_side(state, instruction, generation, operand, y),
         };
-        let (x, y) = (side(false, uses_x), side(true, uses_y));
+        let (x, y) = (side(false, reads_x), side(true, reads_y));
         let (forced_to_0, clamp) = (forced_to_0(instruction, generation, operand), clamp(instruction, operand));
         Loaded { instruction, operand, forced_to_0, clamp, z_signed: z_signs(instruction, operand).0, x, y }
     }
@@ -439,11 +439,16 @@ fn enable(generation: u64, operand: u64) -> Option<(usize, usize)> {
     (!several_vectors(generation, operand)).then(|| (bits(operand, 38, 40), bits(operand, 32, 37)))
 }
 
-/// Whether a step stores 0 whatever there is.
-fn forced_to_0(instruction: u64, generation: u64, operand: u64) -> bool {
+/// Whether a vecint or a vecfp is overridden: by this broadcast mode of several vectors, or by this value of enable mode 0.
+fn overridden(instruction: u64, generation: u64, operand: u64, mode: usize, value: usize) -> bool {
     let operand = read_bits(instruction, operand);
-    let forced = broadcast(generation, operand) == Some(1) || enable(generation, operand) == Some((0, 3));
-    matches!(instruction, 18 | 19) && forced
+    let given = broadcast(generation, operand) == Some(mode) || enable(generation, operand) == Some((0, value));
+    matches!(instruction, 18 | 19) && given
+}
+
+/// Whether a step stores 0 whatever there is.
+pub(crate) fn forced_to_0(instruction: u64, generation: u64, operand: u64) -> bool {
+    overridden(instruction, generation, operand, 1, 3)
 }
 
 fn vector_mask(mode: usize, n: usize, i: usize, count: usize) -> bool {
@@ -456,7 +461,7 @@ fn vector_mask(mode: usize, n: usize, i: usize, count: usize) -> bool {
 }
 
 /// The bits of an X, a Y and a Z lane of a step that is done.
-pub fn lane_bits(instruction: u64, operand: u64) -> (usize, usize, usize) {
+pub(crate) fn lane_bits(instruction: u64, operand: u64) -> (usize, usize, usize) {
     let alike = |bits| (bits, bits, bits);
     match instruction {
         11 => alike(64),
@@ -539,20 +544,14 @@ fn matrix_side(state: &[u8], instruction: u64, operand: u64, y: bool) -> Side {
     }
 }
 
-/// X or Y of a vecint or a vecfp. Of floats, what reads as 0 is +0.
+/// X or Y of a vecint or a vecfp.
 fn vector_side(state: &[u8], instruction: u64, generation: u64, operand: u64, y: bool) -> Side {
     let (ring, offset) = ring(state, operand, y);
     let (x_bits, y_bits, _) = lane_bits(instruction, operand);
     let (lane_bits, signed) = if y { (y_bits, bit(operand, 26)) } else { (x_bits, bit(operand, 63)) };
-    // the modes that read it as 0, repeat it, and repeat its lane 0
-    let [zero, same, lane_0] = if y { [5, 3, 7] } else { [4, 2, 6] };
-    let (broadcast, indexed) = (broadcast(generation, operand), indexed(operand, y));
-    let reads_as_0 = broadcast == Some(zero) || enable(generation, operand) == Some((0, zero));
-    if reads_as_0 {
-        return Side::default();
-    }
+    let indexed = indexed(operand, y);
     let advance = match indexed {
-        _ if broadcast == Some(same) || broadcast == Some(lane_0) => 0,
+        _ if repeats(generation, operand)[usize::from(y)] => 0,
         Some((index_bits, _)) => 64 * index_bits / lane_bits,
         None => 64,
     };
@@ -584,7 +583,7 @@ fn vecint(operand: u64, x: i64, y: i64, z: i64) -> i64 {
 }
 
 /// The least and the greatest number that a step stores, where it clamps: vecint in modes 5 and 6, and in mode 4 where asked.
-pub fn clamp(instruction: u64, operand: u64) -> Option<(i64, i64)> {
+pub(crate) fn clamp(instruction: u64, operand: u64) -> Option<(i64, i64)> {
     let signed = |bits: usize| (-(1 << (bits - 1)), (1 << (bits - 1)) - 1);
     let saturation = reduced_widths(operand).1;
     match (instruction, alu_mode(operand)) {
@@ -597,7 +596,7 @@ pub fn clamp(instruction: u64, operand: u64) -> Option<(i64, i64)> {
 }
 
 /// Whether the operation of a step that is done uses X, Y and what the lane had. One that reads as 0 is used.
-pub fn uses(instruction: u64, generation: u64, operand: u64) -> [bool; 3] {
+pub(crate) fn uses(instruction: u64, generation: u64, operand: u64) -> [bool; 3] {
     let mode = alu_mode(operand);
     match instruction {
         _ if forced_to_0(instruction, generation, operand) => [false; 3],
@@ -608,8 +607,21 @@ pub fn uses(instruction: u64, generation: u64, operand: u64) -> [bool; 3] {
     }
 }
 
+/// Whether a step that is done loads X and Y: those that it uses, but where they read as 0.
+pub(crate) fn reads(instruction: u64, generation: u64, operand: u64) -> [bool; 2] {
+    let [x, y, _] = uses(instruction, generation, operand);
+    let reads_as_0 = |n| overridden(instruction, generation, operand, n, n);
+    [x && !reads_as_0(4), y && !reads_as_0(5)]
+}
+
+/// Whether several vectors have the same X, and the same Y.
+pub(crate) fn repeats(generation: u64, operand: u64) -> [bool; 2] {
+    let broadcast = broadcast(generation, operand);
+    [matches!(broadcast, Some(2 | 6)), matches!(broadcast, Some(3 | 7))]
+}
+
 /// Whether a step takes its Z lanes for signed numbers: what was there, and what it leaves there.
-pub fn z_signs(instruction: u64, operand: u64) -> (bool, bool) {
+pub(crate) fn z_signs(instruction: u64, operand: u64) -> (bool, bool) {
     let z_signed = bit(operand, 63);
     match instruction {
         14 => (true, true),

@@ -419,9 +419,11 @@ fn allows(words: &str, lane: usize, lanes: usize) -> bool {
 /// The words of every enable mode and value, at every lane width, are those of the lanes that are enabled.
 #[test]
 fn the_words_of_every_mask_are_true() {
-    let forms = [3, 4, 9, 10, 11, 0].map(|widths| (4, widths));
-    for (mode, widths) in forms.into_iter().chain([0, 3, 10, 11, 12, 13].map(|widths| (0, widths))) {
-        let (x_bits, y_bits, z_bits) = reference::lane_bits(18, mode << 47 | widths << 42);
+    // of Z alone in mode 4; in mode 0 the bits of a lane of X, of Y and of Z
+    let alone = [(3, 32), (4, 32), (9, 8), (10, 32), (11, 16), (0, 16)].map(|(widths, bits)| (4, widths, bits, bits, bits));
+    let forms = [(0, 16, 16, 16), (3, 16, 16, 32), (10, 8, 8, 32), (11, 8, 8, 16), (12, 8, 16, 32), (13, 16, 8, 32)];
+    let forms = forms.map(|(widths, x_bits, y_bits, z_bits)| (0, widths, x_bits, y_bits, z_bits));
+    for (mode, widths, x_bits, y_bits, z_bits) in alone.into_iter().chain(forms) {
         let (narrower, [x_lanes, y_lanes]) = (x_bits.min(y_bits), [512 / x_bits, 512 / y_bits]);
         for (enable_mode, value) in (0..8).flat_map(|mode| (0..64).map(move |value| (mode, value))) {
             let step = format!("vecint m1 mode={mode} widths={widths} enable_mode={enable_mode} enable_value={value}");
