@@ -1,4 +1,4 @@
-use std::fmt;
+use std::{fmt, ops::Range};
 
 /// The bytes of X, Y and Z together.
 pub const REGISTER_BYTES: usize = 5_120;
@@ -73,25 +73,55 @@ impl Register {
     ///
     /// Where there is no such register, as a slice does.
     pub fn start(self) -> usize {
-        let (first, number, count) = match self {
-            Register::X(n) => (0, n, 8),
-            Register::Y(n) => (512, n, 8),
-            Register::Z(n) => (1_024, n, 64),
+        assert!(self.is_there(), "there is no register {self:?}");
+        let first = match self {
+            Register::X(_) => 0,
+            Register::Y(_) => 512,
+            Register::Z(_) => 1_024,
         };
-        assert!(number < count, "there is no register {self:?}");
-        first + 64 * number
+        first + 64 * self.number()
+    }
+
+    /// `x`, `y` or `z`.
+    pub(crate) fn name(self) -> &'static str {
+        match self {
+            Register::X(_) => "x",
+            Register::Y(_) => "y",
+            Register::Z(_) => "z",
+        }
+    }
+
+    fn number(self) -> usize {
+        let (Register::X(number) | Register::Y(number) | Register::Z(number)) = self;
+        number
+    }
+
+    /// How many registers X has, or Y, or Z, whichever this one is of.
+    pub(crate) fn count(self) -> usize {
+        if matches!(self, Register::Z(_)) { 64 } else { 8 }
+    }
+
+    pub(crate) fn is_there(self) -> bool {
+        self.number() < self.count()
     }
 }
 
 /// `x 0`, as in texts.
 impl fmt::Display for Register {
     fn fmt(&self, f: &mut fmt::Formatter) -> fmt::Result {
-        match self {
-            Register::X(number) => write!(f, "x {number}"),
-            Register::Y(number) => write!(f, "y {number}"),
-            Register::Z(number) => write!(f, "z {number}"),
-        }
+        write!(f, "{} {}", self.name(), self.number())
     }
+}
+
+/// Where a lane of so many bytes lies in its row.
+fn bytes_of_lane(lane: usize, bytes: usize) -> Range<usize> {
+    assert!(lane < 64 / bytes, "there is no lane {lane} of {bytes} bytes in a row of 64");
+    bytes * lane..bytes * (lane + 1)
+}
+
+/// Bytes as hex digits, the first byte first.
+pub(crate) fn hex(bytes: &[u8]) -> String {
+    bytes.iter().map(|byte| format!("{byte:02x}")).collect()
 }
 
 impl State {
@@ -199,7 +229,7 @@ impl State {
     ///
     /// Where there is no such register, as a slice does.
     pub fn hex_row(&self, register: Register) -> String {
-        self.row(register).iter().map(|byte| format!("{byte:02x}")).collect()
+        hex(self.row(register))
     }
 
     /// A lane as an unsigned number.
@@ -208,7 +238,7 @@ impl State {
     ///
     /// Where there is no such register or lane, as a slice does.
     pub fn lane(&self, register: Register, lane: usize, width: Width) -> u32 {
-        let bytes = &self.row(register)[lane * width.bytes()..][..width.bytes()];
+        let bytes = &self.row(register)[bytes_of_lane(lane, width.bytes())];
         bytes.iter().rev().fold(0, |number, &byte| number << 8 | u32::from(byte))
     }
 
@@ -228,7 +258,7 @@ impl State {
     ///
     /// Where there is no such register or lane, as a slice does.
     pub fn set_lane(&mut self, register: Register, lane: usize, width: Width, value: i64) {
-        let bytes = &mut self.row_mut(register)[lane * width.bytes()..][..width.bytes()];
+        let bytes = &mut self.row_mut(register)[bytes_of_lane(lane, width.bytes())];
         bytes.copy_from_slice(&value.to_le_bytes()[..width.bytes()]);
     }
 
@@ -247,7 +277,7 @@ impl State {
     ///
     /// Where there is no such register or lane, as a slice does.
     pub fn f32_lane(&self, register: Register, lane: usize) -> f32 {
-        f32::from_le_bytes(self.row(register)[4 * lane..][..4].try_into().expect("four bytes"))
+        f32::from_le_bytes(self.row(register)[bytes_of_lane(lane, 4)].try_into().expect("four bytes"))
     }
 
     /// A lane of 64 bits as a float.
@@ -256,7 +286,7 @@ impl State {
     ///
     /// Where there is no such register or lane, as a slice does.
     pub fn f64_lane(&self, register: Register, lane: usize) -> f64 {
-        f64::from_le_bytes(self.row(register)[8 * lane..][..8].try_into().expect("eight bytes"))
+        f64::from_le_bytes(self.row(register)[bytes_of_lane(lane, 8)].try_into().expect("eight bytes"))
     }
 
     /// Writes a lane of 32 bits; a pattern is written by [`f32::from_bits`].
@@ -265,7 +295,7 @@ impl State {
     ///
     /// Where there is no such register or lane, as a slice does.
     pub fn set_f32(&mut self, register: Register, lane: usize, value: f32) {
-        self.row_mut(register)[4 * lane..][..4].copy_from_slice(&value.to_le_bytes());
+        self.row_mut(register)[bytes_of_lane(lane, 4)].copy_from_slice(&value.to_le_bytes());
     }
 
     /// Writes a lane of 64 bits; a pattern is written by [`f64::from_bits`].
@@ -274,7 +304,7 @@ impl State {
     ///
     /// Where there is no such register or lane, as a slice does.
     pub fn set_f64(&mut self, register: Register, lane: usize, value: f64) {
-        self.row_mut(register)[8 * lane..][..8].copy_from_slice(&value.to_le_bytes());
+        self.row_mut(register)[bytes_of_lane(lane, 8)].copy_from_slice(&value.to_le_bytes());
     }
 }
 
@@ -328,9 +358,15 @@ mod tests {
     }
 
     #[test]
-    #[should_panic(expected = "out of range")]
+    #[should_panic(expected = "no lane 8 of 8 bytes")]
     fn a_float_lane_past_the_last_panics() {
         State::new().set_f64(Register::Z(0), 8, 1.0);
+    }
+
+    #[test]
+    #[should_panic(expected = "of 2 bytes")]
+    fn a_lane_whose_place_is_past_all_numbers_is_not_lane_0() {
+        State::new().lane(Register::Z(0), usize::MAX / 2 + 1, Width::Bits16);
     }
 
     #[test]

@@ -1,20 +1,12 @@
 //! Lines of a state and of loads: a register or more, and their bytes or lanes.
 use super::{assembler::Load, expression::Expression, number::NumberError};
-use crate::{LaneType, Register, State};
+use crate::{LaneType, Register, State, state::hex};
 
 /// The bytes of a register.
 const REGISTER: usize = 64;
 
 /// The most characters of a line's values that an error repeats.
 const REPEATED: usize = 64;
-
-/// X, Y or Z.
-#[derive(Clone, Copy, Debug, PartialEq, Eq)]
-enum Bank {
-    X,
-    Y,
-    Z,
-}
 
 /// A line such as `x i16: 3 -3`, `z 3 hex: ff7f` or `load x 0 f32: 1.5`.
 #[derive(Clone, Debug)]
@@ -31,41 +23,21 @@ pub(super) struct RegisterLine {
     sums: Vec<(usize, Expression)>,
 }
 
-impl Bank {
-    fn from_name(name: &str) -> Option<Self> {
-        match name {
-            "x" => Some(Bank::X),
-            "y" => Some(Bank::Y),
-            "z" => Some(Bank::Z),
-            _ => None,
-        }
-    }
+/// X, Y or Z: what makes a register of a number, whether there is one or not.
+type Bank = fn(usize) -> Register;
 
-    fn name(self) -> &'static str {
-        match self {
-            Bank::X => "x",
-            Bank::Y => "y",
-            Bank::Z => "z",
-        }
-    }
+fn bank(name: &str) -> Option<Bank> {
+    [Register::X, Register::Y, Register::Z as Bank].into_iter().find(|bank| bank(0).name() == name)
+}
 
-    /// How many registers there are.
-    fn registers(self) -> usize {
-        if self == Bank::Z { 64 } else { 8 }
+/// The register of this number, where there is one.
+fn register(bank: Bank, number: u64) -> Result<Register, String> {
+    let register = bank(number.try_into().unwrap_or(usize::MAX));
+    if register.is_there() {
+        return Ok(register);
     }
-
-    fn register(self, number: u64) -> Result<Register, String> {
-        let there = usize::try_from(number).ok().filter(|&number| number < self.registers());
-        let number = there.ok_or_else(|| {
-            let name = self.name();
-            format!("there is no {name} {number}: {name} N has N 0 to {}", self.registers() - 1)
-        })?;
-        Ok(match self {
-            Bank::X => Register::X(number),
-            Bank::Y => Register::Y(number),
-            Bank::Z => Register::Z(number),
-        })
-    }
+    let name = register.name();
+    Err(format!("there is no {name} {number}: {name} N has N 0 to {}", register.count() - 1))
 }
 
 impl RegisterLine {
@@ -82,7 +54,7 @@ impl RegisterLine {
         let (bank, number) = registers_of(registers, is_load, variables).ok_or_else(|| no_place(is_load, &place))?;
         let mut line = RegisterLine { place, bank, number, form, bytes: Vec::new(), sums: Vec::new() };
         match form {
-            None => line.bytes = hex(values)?,
+            None => line.bytes = from_hex(values)?,
             Some(lane_type) => values.split_whitespace().try_for_each(|word| line.push(lane_type, word, variables)).map_err(words_of)?,
         }
         line.fits()?;
@@ -104,7 +76,7 @@ impl RegisterLine {
     }
 
     fn fits(&self) -> Result<(), String> {
-        let room = if self.number.is_some() { REGISTER } else { REGISTER * self.bank.registers() };
+        let room = if self.number.is_some() { REGISTER } else { REGISTER * (self.bank)(0).count() };
         let (unit, each) = self.form.map_or(("bytes", 1), |lane_type| ("lanes", lane_type.bytes()));
         if self.bytes.len() > room {
             return Err(format!("{} has {} {unit}, not {}", self.place, room / each, self.bytes.len() / each));
@@ -115,14 +87,14 @@ impl RegisterLine {
     /// A register that does not depend on variables is there.
     fn constant_register(&self) -> Result<(), String> {
         match self.number {
-            Some(Expression::Number(number)) => self.bank.register(number).map(drop),
+            Some(Expression::Number(number)) => register(self.bank, number).map(drop),
             _ => Ok(()),
         }
     }
 
     fn first_register(&self, values: &[u64]) -> Result<Register, String> {
         let number = self.number.as_ref().map_or(Ok(0), |number| number.number(values));
-        self.bank.register(number.map_err(words_of)?)
+        register(self.bank, number.map_err(words_of)?)
     }
 
     /// Whether it is the same for all variables.
@@ -169,8 +141,8 @@ fn form_of(word: &str) -> Option<Option<LaneType>> {
 /// `x`, `y`, and `x N`, `y N`, `z N`; the latter three alone of a load.
 fn registers_of(words: &[&str], is_load: bool, variables: &[String]) -> Option<(Bank, Option<Expression>)> {
     match words {
-        [name @ ("x" | "y")] if !is_load => Some((Bank::from_name(name)?, None)),
-        [name, number] => Some((Bank::from_name(name)?, Some(Expression::parse(number, variables).ok()?))),
+        [name @ ("x" | "y")] if !is_load => Some((bank(name)?, None)),
+        [name, number] => Some((bank(name)?, Some(Expression::parse(number, variables).ok()?))),
         _ => None,
     }
 }
@@ -197,7 +169,7 @@ fn no_form(place: &str, values: &str) -> String {
     )
 }
 
-fn hex(digits: &str) -> Result<Vec<u8>, String> {
+fn from_hex(digits: &str) -> Result<Vec<u8>, String> {
     let digits: Vec<char> = digits.chars().filter(|digit| !digit.is_whitespace()).collect();
     let value = |digit: char| digit.to_digit(16).ok_or_else(|| format!("expected hex digits, not {digit:?}"));
     if digits.len() % 2 == 1 {
@@ -235,7 +207,7 @@ pub(super) fn print_state(state: &State, form: Option<LaneType>) -> String {
 pub fn print_register(register: Register, row: &[u8], form: Option<LaneType>) -> String {
     let end = row.iter().rposition(|&byte| byte != 0).map_or(1, |last| last + 1);
     match form {
-        None => format!("{register} hex: {}", row[..end].iter().map(|byte| format!("{byte:02x}")).collect::<String>()),
+        None => format!("{register} hex: {}", hex(&row[..end])),
         Some(lane_type) => {
             let lanes = row.chunks(lane_type.bytes()).take(end.div_ceil(lane_type.bytes()));
             let words: Vec<String> = lanes.map(|lane| lane_type.print(lane)).collect();
