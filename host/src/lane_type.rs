@@ -1,4 +1,4 @@
-use crate::text::{NumberError, parse_number};
+use crate::text::{NumberError, parse_number, plain};
 use std::{fmt, ops::RangeInclusive, str::FromStr};
 
 /// What the bits of a lane are taken for, where people write or read them: an integer or a float, little-endian in a register.
@@ -142,12 +142,9 @@ impl LaneType {
     }
 
     fn integer(self, word: &str) -> Result<u64, NumberError> {
-        let digits = word.strip_prefix('-').unwrap_or(word);
-        if !digits.contains(|digit: char| digit.is_ascii_digit()) || digits.contains(|digit: char| !digit.is_ascii_digit() && digit != '_')
-        {
-            return Err(NumberError::Lane { word: word.to_owned(), lane_type: self });
-        }
-        let number = word.replace('_', "").parse().ok().filter(|number| self.range().is_some_and(|range| range.contains(number)));
+        let (sign, digits) = word.strip_prefix('-').map_or(("", word), |digits| ("-", digits));
+        let digits = plain(digits, 10).ok_or_else(|| NumberError::Lane { word: word.to_owned(), lane_type: self })?;
+        let number = format!("{sign}{digits}").parse().ok().filter(|number| self.range().is_some_and(|range| range.contains(number)));
         let number = number.ok_or_else(|| NumberError::Range { word: word.to_owned(), lane_type: self })?;
         Ok(number as u64 & u64::MAX >> (64 - self.bits()))
     }
@@ -295,6 +292,9 @@ mod tests {
             (U16, "-0x1", "expected a u16 (0 to 65535, or its pattern, 0x..), not \"-0x1\""),
             (I16, "--1", "expected an i16 (-32768 to 32767, or its pattern, 0x..), not \"--1\""),
             (I16, "_", "expected an i16 (-32768 to 32767, or its pattern, 0x..), not \"_\""),
+            (I16, "-_1", "expected an i16 (-32768 to 32767, or its pattern, 0x..), not \"-_1\""),
+            (U8, "1_", "expected a u8 (0 to 255, or its pattern, 0x..), not \"1_\""),
+            (U8, "0x_1", "0x_1 is no pattern of 8 bits"),
             (I16, "", "expected an i16 (-32768 to 32767, or its pattern, 0x..), not \"\""),
             (F32, "3.5e38", "3.5e38 is beyond the largest f32"),
             (F64, "-1e309", "-1e309 is beyond the largest f64"),

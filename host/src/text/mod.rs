@@ -51,6 +51,7 @@ mod state;
 mod step;
 
 pub use assembler::{Assembler, Item, Load};
+pub(crate) use number::plain;
 pub use number::{NumberError, parse_number};
 pub use state::print_register;
 pub use step::StepError;
@@ -304,7 +305,7 @@ mod tests {
     #[test]
     fn the_starting_state_is_read() {
         let trace = assemble(
-            "x hex: 01 02\nx 1 hex: 0a\ny 7 u8: 255\n\n# nothing\nz 0x3f hex: 00 5\t0  # a comment: with a colon\nz 3 i32: -7; z 4 i16: 3 -3\n",
+            "x hex: 01 02\nx 1 hex: 0a\ny 7 u8: 255\n\n# nothing\nz 0x3f hex: 00\t50  # a comment: with a colon\nz 3 i32: -7; z 4 i16: 3 -3\n",
         );
         let trace = trace.unwrap();
         let start = trace.start();
@@ -365,7 +366,9 @@ z 63 f64: 0.30000000000000004
             ("mac16 m1\nx: 00", 2, "stand before the first step"),
             ("load x 0 i8: 0\nx i8: 0", 2, "stand before the first step or load"),
             ("mac16 m1; x i8: 0", 1, "stand before the first step or load"),
-            ("x hex: 0", 1, "two hex digits to a byte, and there are 1 digits"),
+            ("x hex: 0", 1, "two hex digits to a byte, and \"0\" has 1"),
+            ("x hex: 00 5 0", 1, "two hex digits to a byte, and \"5\" has 1"),
+            ("x hex: 0xff", 1, "expected hex digits, not 'x'"),
             ("x hex: 0g", 1, "expected hex digits, not 'g'"),
             ("x hex: 00é0", 1, "expected hex digits, not 'é'"),
             ("z hex: 00", 1, "expected x, x N, y, y N (N 0 to 7) or z N (0 to 63), then hex or a lane type (i8, "),

@@ -49,6 +49,7 @@ pub enum NumberError {
 /// use amx::text::parse_number;
 /// assert_eq!(parse_number("0x8000_0000"), Ok(1 << 31));
 /// assert_eq!(parse_number("-1").unwrap_err().to_string(), "expected a number of 64 bits (12, 0x1f or 0b101), not \"-1\"");
+/// assert!(parse_number("_1").is_err() && parse_number("0x1_").is_err());
 /// ```
 pub fn parse_number(word: &str) -> Result<u64, NumberError> {
     let (digits, radix) = match word.as_bytes() {
@@ -56,9 +57,15 @@ pub fn parse_number(word: &str) -> Result<u64, NumberError> {
         [b'0', b'b', ..] => (&word[2..], 2),
         _ => (word, 10),
     };
-    let plain = digits.replace('_', "");
-    let number = if plain.starts_with('+') { None } else { u64::from_str_radix(&plain, radix).ok() };
+    let number = plain(digits, radix).and_then(|digits| u64::from_str_radix(&digits, radix).ok());
     number.ok_or_else(|| NumberError::Number(word.to_owned()))
+}
+
+/// Digits without the `_` between them; none where there is anything else.
+pub(crate) fn plain(digits: &str, radix: u32) -> Option<String> {
+    let is_digits = digits.chars().all(|letter| letter.is_digit(radix) || letter == '_');
+    let is_whole = !digits.is_empty() && !digits.starts_with('_') && !digits.ends_with('_');
+    (is_digits && is_whole).then(|| digits.replace('_', ""))
 }
 
 impl fmt::Display for NumberError {

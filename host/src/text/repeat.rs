@@ -265,6 +265,8 @@ mod tests {
         let expected = lines.collect::<String>().replace(" z_row=0", "");
         assert_eq!(steps("repeat r in 0..2 { repeat s in 0..3 { mac16 m1 z_row=3*r+s }; vecint m1 z_row=r }"), expected);
         assert_eq!(steps("repeat r in 0..2 {\n repeat s in 0..3 {\n  mac16 m1 z_row=3*r+s\n } vecint m1 z_row=r\n}"), expected);
+        // no variable reads as a number
+        assert_eq!(steps("repeat _1 in 2..3 { mac16 m1 z_row=_1 }"), "mac16 m1 z_row=2\n");
         // the same variable again, after its block
         let twice = "repeat r in 0..1 { repeat s in 0..1 { mac16 m1 z_row=s } repeat s in 1..2 { mac16 m1 z_row=s } }";
         assert_eq!(steps(twice), "mac16 m1\nmac16 m1 z_row=1\n");

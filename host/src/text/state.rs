@@ -169,13 +169,18 @@ fn no_form(place: &str, values: &str) -> String {
     )
 }
 
-fn from_hex(digits: &str) -> Result<Vec<u8>, String> {
-    let digits: Vec<char> = digits.chars().filter(|digit| !digit.is_whitespace()).collect();
-    let value = |digit: char| digit.to_digit(16).ok_or_else(|| format!("expected hex digits, not {digit:?}"));
-    if digits.len() % 2 == 1 {
-        return Err(format!("expected two hex digits to a byte, and there are {} digits", digits.len()));
+/// The bytes of words that are whole bytes each.
+fn from_hex(words: &str) -> Result<Vec<u8>, String> {
+    let mut bytes = Vec::new();
+    for word in words.split_whitespace() {
+        let digit = |letter: char| letter.to_digit(16).ok_or_else(|| format!("expected hex digits, not {letter:?}"));
+        let digits = word.chars().map(digit).collect::<Result<Vec<u32>, _>>()?;
+        if digits.len() % 2 == 1 {
+            return Err(format!("expected two hex digits to a byte, and {word:?} has {}", digits.len()));
+        }
+        bytes.extend(digits.chunks(2).map(|pair| (pair[0] * 16 + pair[1]) as u8));
     }
-    digits.chunks(2).map(|pair| Ok((value(pair[0])? * 16 + value(pair[1])?) as u8)).collect()
+    Ok(bytes)
 }
 
 /// The lines of a state: a count that is not 0, and the rows that are not all 0.
