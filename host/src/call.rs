@@ -66,9 +66,22 @@ impl Instruction {
 }
 
 impl Generation {
+    /// Every generation, by number.
+    pub const ALL: [Self; 2] = [Generation::M1, Generation::M2];
+
     /// The generation of this number, if the unit covers it.
     pub fn from_number(number: u64) -> Option<Self> {
-        [Generation::M1, Generation::M2].into_iter().find(|&generation| generation as u64 == number)
+        Self::ALL.into_iter().find(|&generation| generation as u64 == number)
+    }
+
+    /// The generation of this name, if the unit covers it.
+    ///
+    /// ```
+    /// use amx::Generation;
+    /// assert_eq!((Generation::from_name("m2"), Generation::from_name("M2")), (Some(Generation::M2), None));
+    /// ```
+    pub fn from_name(name: &str) -> Option<Self> {
+        Self::ALL.into_iter().find(|generation| generation.name() == name)
     }
 
     /// `m1` or `m2`.

@@ -142,12 +142,10 @@ impl TraceHeader {
         }
     }
 
-    /// Counts one more record.
-    pub(crate) fn count_record(&mut self) -> Result<(), TraceFull> {
-        if self.records == Trace::MAX_RECORDS {
-            return Err(TraceFull);
-        }
-        self.records += 1;
+    /// Counts so many more records.
+    pub(crate) fn count_records(&mut self, more: u64) -> Result<(), TraceFull> {
+        let more = usize::try_from(more).ok().filter(|&more| more <= Trace::MAX_RECORDS - self.records);
+        self.records += more.ok_or(TraceFull)?;
         Ok(())
     }
 }
@@ -189,7 +187,7 @@ impl Trace {
 
     /// Adds a record at the end.
     pub fn push(&mut self, record: Record) -> Result<(), TraceFull> {
-        self.header.count_record()?;
+        self.header.count_records(1)?;
         self.records.push(record);
         Ok(())
     }

@@ -97,7 +97,7 @@ impl Field {
     }
 
     /// An operand with the field's bits replaced by any value: one that does not fit them is an error.
-    pub(super) fn set(&'static self, operand: u64, value: u64) -> Result<u64, FieldError> {
+    pub(crate) fn set(&'static self, operand: u64, value: u64) -> Result<u64, FieldError> {
         if value > self.max() { Err(FieldError::Range { field: self, value }) } else { Ok(self.put(operand, value)) }
     }
 
@@ -152,9 +152,9 @@ pub(crate) fn find(instruction: Instruction, generation: Generation, operand: u6
     })
 }
 
-/// Where a name stands in its instruction's table; names that are not there come last.
-pub(crate) fn place(instruction: Instruction, name: &str) -> usize {
-    table(instruction).iter().position(|field| field.name == name || field.short == name).unwrap_or(usize::MAX)
+/// Where a name stands in its instruction's table.
+pub(crate) fn place(instruction: Instruction, name: &str) -> Option<usize> {
+    table(instruction).iter().position(|field| field.name == name || field.short == name)
 }
 
 /// Why a field was not set.

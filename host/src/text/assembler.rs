@@ -5,7 +5,10 @@ use super::{
     state::RegisterLine,
     step::{Step, StepError, instructions},
 };
-use crate::{Checkpoint, REGISTER_BYTES, Record, Register, STATE_LENGTH, State, Trace, TraceFull, TraceHeader};
+use crate::{Checkpoint, REGISTER_BYTES, Record, Register, STATE_LENGTH, State, TraceHeader};
+
+/// The byte order mark, which some editors put before a text: it is no part of it.
+const MARK: char = '\u{feff}';
 
 const NOT_TAKEN: &str = "the items of the lines above are to be taken first";
 const LOADS_AND_CHECKPOINT: &str = "a text with loads has no checkpoint";
@@ -133,6 +136,7 @@ impl Assembler {
     }
 
     fn take(&mut self, line: &str) -> Result<(), String> {
+        let line = line.strip_prefix(MARK).filter(|_| self.lines == 1).unwrap_or(line);
         let line = line.trim_end_matches(['\r', '\n']);
         if self.program.is_ready() {
             return Err(NOT_TAKEN.to_owned());
@@ -211,13 +215,11 @@ impl Assembler {
         if self.program.count(steps) {
             return Ok(());
         }
-        let room = Trace::MAX_RECORDS - self.header.records;
-        match usize::try_from(steps) {
-            Ok(steps) if steps <= room => self.header.records += steps,
-            _ if steps == 1 => return Err(TraceFull.to_string()),
-            _ => return Err(format!("{TraceFull}, and this block makes {steps} after {}", self.header.records)),
-        }
-        Ok(())
+        let before = self.header.records;
+        self.header.count_records(steps).map_err(|full| match steps {
+            1 => full.to_string(),
+            _ => format!("{full}, and this block makes {steps} after {before}"),
+        })
     }
 
     /// `checkpoint`: the steps above are consumed.
@@ -349,6 +351,18 @@ mod tests {
             assert_eq!(taken.is_err(), assembler.sound().is_err());
         }
         assert!(items > 100, "{items}");
+    }
+
+    #[test]
+    fn a_byte_order_mark_stands_before_the_first_line_alone() {
+        for text in ["\u{feff}mac16 m1", "\u{feff}", "\u{feff}# a comment", "\u{feff}x i16: 3"] {
+            let mut assembler = Assembler::new();
+            assert_eq!(assembler.line(text), Ok(()));
+            while assembler.next_item().unwrap().is_some() {}
+            let error = assembler.line("\u{feff}mac16 m1").unwrap_err();
+            assert!(error.line == 2 && error.expected.ends_with("not \"\\u{feff}mac16\""), "{error}");
+        }
+        assert!(Assembler::new().line("\u{feff}\u{feff}mac16 m1").is_err());
     }
 
     #[test]

@@ -74,8 +74,8 @@ pub const MAX_BLOCK: usize = 262_144;
 pub struct TextError {
     /// The line, counted from 1.
     pub line: usize,
-    /// In which round of the repeat blocks around it, the outermost first: their variables and the values of these. None where it is wrong in
-    /// every round.
+    /// In which round of the repeat blocks around it, the outermost first: their variables and the values of these. None where that is not
+    /// needed to tell.
     pub rounds: Vec<(String, u64)>,
     /// What was expected.
     pub expected: String,

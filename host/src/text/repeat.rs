@@ -1,13 +1,13 @@
 //! Repeat blocks, expanded item by item: of a million steps no more is held than the block's text says.
 use super::{TextError, assembler::Item, number::parse_number, state::RegisterLine, step::Step};
-use crate::{Instruction, LaneType, Record, operand::place};
+use crate::{Generation, Instruction, LaneType, Record, operand::place};
 use std::ops::Range;
 
 /// The most blocks around a step.
 const MAX_DEPTH: usize = 8;
 
-/// Words that are no names of variables, besides those of fields, instructions and lane types.
-const RESERVED: [&str; 15] = ["raw", "load", "repeat", "in", "checkpoint", "count", "bits", "hex", "x", "y", "z", "m1", "m2", "inf", "nan"];
+/// Words that are no names of variables, besides those of fields, instructions, generations and lane types.
+const RESERVED: [&str; 13] = ["raw", "load", "repeat", "in", "checkpoint", "count", "bits", "hex", "x", "y", "z", "inf", "nan"];
 
 /// Steps and loads with the repeat blocks around them, and how far they are expanded.
 #[derive(Clone, Debug, Default)]
@@ -216,8 +216,9 @@ fn check_name(name: &str) -> Result<(), String> {
     if name.starts_with(|first: char| first.is_ascii_digit()) || !name.chars().all(is_name) {
         return Err(format!("expected a name of letters, digits and _ that begins with no digit, not {name:?}"));
     }
-    let is_field = Instruction::ALL.into_iter().any(|instruction| place(instruction, name) != usize::MAX);
-    if is_field || RESERVED.contains(&name) || Instruction::from_name(name).is_some() || name.parse::<LaneType>().is_ok() {
+    let is_field = Instruction::ALL.into_iter().any(|instruction| place(instruction, name).is_some());
+    let is_first = Instruction::from_name(name).is_some() || Generation::from_name(name).is_some();
+    if is_field || is_first || RESERVED.contains(&name) || name.parse::<LaneType>().is_ok() {
         return Err(format!("{name} has a meaning of its own: a variable goes by another name, say r"));
     }
     Ok(())
@@ -318,6 +319,11 @@ mod tests {
             ("repeat r in 3..5 { vecint m1 mode=r rounding }", "line 1, r = 3: rounding (bit 29) is there only in ALU mode 4"),
             // wrong in every round
             ("repeat r in 0..2 { mac16 m1 shift=32 }", "line 1: shift (bits 55..59) is 0 to 31, not 32"),
+            ("repeat r in 0..2 { mac16 m1 z_row = r }", "line 1: expected NAME=VALUE without spaces, not \"=\""),
+            (
+                "repeat r in 0..0 {\nfms64 m1 z_row=r shift=r\n}",
+                "line 2: fms64 has no field \"shift\"; it has skip_x, skip_y, skip_z, vector, x, x_enable_mode, x_enable_value, y, y_enable_mode, y_enable_value, z_row",
+            ),
             (
                 "repeat r in 0..2 {\nmac16 m1 z_row=q\n}",
                 "line 2: z_row: expected a number of 64 bits (12, 0x1f or 0b101), or an expression of r by +, - and *, not \"q\"",

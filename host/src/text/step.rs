@@ -24,6 +24,8 @@ pub enum StepError {
     Raw(usize),
     /// A number after `raw` is none.
     Number(NumberError),
+    /// No name stands before the `=` of this word.
+    NoName(String),
     /// The value of a field is no number.
     Value {
         /// The field.
@@ -48,6 +50,9 @@ pub enum StepError {
     Field(FieldError),
 }
 
+/// The name of bits that have no other.
+const BITS: &str = "bits";
+
 /// The words of a step. Values may depend on the variables of repeat blocks.
 #[derive(Clone, Debug)]
 pub(super) enum Step<'a> {
@@ -71,14 +76,12 @@ impl<'a> Step<'a> {
             return raw(words, variables);
         }
         let instruction = Instruction::from_name(word).ok_or_else(|| StepError::Instruction(word.to_owned()))?;
-        let generation = match words.next() {
-            Some("m1") => Generation::M1,
-            Some("m2") => Generation::M2,
-            other => return Err(StepError::Generation { instruction, word: other.map(str::to_owned) }),
-        };
-        let mut settings = words.map(|word| Setting::parse(word, variables)).collect::<Result<Vec<_>, _>>()?;
-        // the table has the fields that decide on others first, so they are set in its order
-        settings.sort_by_cached_key(|setting| place(instruction, &setting.name));
+        let word = words.next();
+        let generation = word.and_then(Generation::from_name);
+        let generation = generation.ok_or_else(|| StepError::Generation { instruction, word: word.map(str::to_owned) })?;
+        let mut settings = words.map(|word| Setting::parse(word, instruction, variables)).collect::<Result<Vec<_>, _>>()?;
+        // the table has the fields that decide on others first, so they are set in its order; bits that have no name come last
+        settings.sort_by_cached_key(|setting| place(instruction, &setting.name).unwrap_or(usize::MAX));
         Ok(Step::Fields { instruction, generation, settings })
     }
 
@@ -116,8 +119,14 @@ impl<'a> Step<'a> {
 }
 
 impl<'a> Setting<'a> {
-    fn parse(word: &'a str, variables: &[String]) -> Result<Self, StepError> {
+    fn parse(word: &'a str, instruction: Instruction, variables: &[String]) -> Result<Self, StepError> {
         let (name, value) = word.split_once('=').map_or((word, None), |(name, value)| (name, Some(value)));
+        if name.is_empty() {
+            return Err(StepError::NoName(word.to_owned()));
+        }
+        if name != BITS && place(instruction, name).is_none() {
+            return Err(StepError::Field(FieldError::Unknown { instruction, name: name.to_owned() }));
+        }
         let value = value.map(|value| Expression::parse(value, variables)).transpose();
         let value = value.map_err(|error| StepError::Value { name: name.to_owned(), error })?;
         Ok(Setting { name: name.into(), value })
@@ -145,22 +154,20 @@ fn operand(instruction: Instruction, generation: Generation, settings: &[Setting
     let (mut operand, mut given) = (0, 0);
     for setting in settings {
         let value = setting.number(values)?;
-        if setting.name == "bits" {
-            operand |= unnamed(instruction, generation, operand, value)?;
-            continue;
-        }
-        let field = find(instruction, generation, operand, &setting.name).map_err(StepError::Field)?;
-        let value = match value {
-            Some(value) if value <= field.max() => value,
-            Some(value) => return Err(StepError::Field(FieldError::Range { field, value })),
-            None if field.max() == 1 => 1,
-            None => return Err(StepError::NoValue(field)),
+        let (mask, bits) = if setting.name == BITS {
+            let bits = unnamed(instruction, generation, operand, value)?;
+            (bits, bits)
+        } else {
+            let field = find(instruction, generation, operand, &setting.name).map_err(StepError::Field)?;
+            // a bit's name alone is 1
+            let value = value.or((field.max() == 1).then_some(1)).ok_or(StepError::NoValue(field))?;
+            (field.mask(), field.set(0, value).map_err(StepError::Field)?)
         };
-        if given & field.mask() != 0 {
+        if given & mask != 0 {
             return Err(StepError::Twice(setting.name.clone().into_owned()));
         }
-        given |= field.mask();
-        operand |= value << field.low;
+        given |= mask;
+        operand |= bits;
     }
     Ok(operand)
 }
@@ -235,6 +242,7 @@ impl fmt::Display for StepError {
             }
             StepError::Raw(words) => write!(f, "expected instruction, generation and operand after raw, not {words} words"),
             StepError::Number(error) => error.fmt(f),
+            StepError::NoName(word) => write!(f, "expected NAME=VALUE without spaces, not {word:?}"),
             StepError::Value { name, error } => write!(f, "{name}: {error}"),
             StepError::NoValue(field) => write!(f, "expected {}=VALUE, 0 to {}", field.short, field.max()),
             StepError::NoBits => f.write_str("expected bits=VALUE"),
@@ -318,6 +326,9 @@ mod tests {
             ("mac16 m3", "expected m1 or m2 after mac16, not \"m3\""),
             ("mac16 m1 vector vector", "vector is given twice"),
             ("mac16 m1 x_offset=1 x=1", "x is given twice"),
+            ("mac16 m1 bits=0x200 bits=0x80200", "bits is given twice"),
+            ("mac16 m1 z_row = 3", "expected NAME=VALUE without spaces, not \"=\""),
+            ("mac16 m1 =3", "expected NAME=VALUE without spaces, not \"=3\""),
             ("mac16 m1 shift", "expected shift=VALUE, 0 to 31"),
             ("mac16 m1 shift=-1", "shift: expected a number of 64 bits (12, 0x1f or 0b101), not \"-1\""),
             ("mac16 m1 shift=", "shift: expected a number"),
