@@ -102,7 +102,7 @@ fn effects_in(state: &State, call: Call, rows: Range<usize>, bytes: Range<usize>
     let signed = reference::z_signs(instruction, operand).1;
     let mut effects = reference::effects(state.bytes(), instruction, generation, operand, rows, bytes);
     effects.sort_by_key(|(lane, _)| (lane.row, lane.lane));
-    let float = [Instruction::Fms64, Instruction::Vecfp].iter().any(|&float| float as u64 == instruction);
+    let float = matches!(Instruction::from_number(instruction), Some(Instruction::Fms64 | Instruction::Vecfp));
     effects.iter().map(|(lane, effect)| if float { of_float(lane, effect) } else { of_integer(lane, effect, signed) }).collect()
 }
 

@@ -220,13 +220,7 @@ impl std::error::Error for FileFault {}
 #[cfg(test)]
 mod tests {
     use super::*;
-    use crate::{Record, State};
-
-    fn trace(n: usize) -> Trace {
-        let mut trace = Trace::new(State::new());
-        (0..n).for_each(|n| trace.push(Record { instruction: 14, generation: 1, operand: n as u64 }).unwrap());
-        trace
-    }
+    use crate::trace::tests::trace;
 
     fn fault(file: &[u8]) -> String {
         format!("{:#}", Trace::from_bytes(file).unwrap_err())
@@ -245,6 +239,11 @@ mod tests {
             (two[..1].to_vec(), "5: 1 byte, and its table has 28"),
             (three[..39].to_vec(), "5: 39 bytes, and its table has 40"),
             (with(two.clone(), 0, 7), "6: its table tells of 7 sections, where a trace has 2 or 3"),
+            (with(two.clone(), 0, 1), "6: its table tells of 1 section, where a trace has 2 or 3"),
+            (with(two.clone(), 3, 1), "6: its table tells of 16,777,218 sections, where a trace has 2 or 3"),
+            (with(two[..28].to_vec(), 0, 4), "6: its table tells of 4 sections, where a trace has 2 or 3"),
+            (with(two[..27].to_vec(), 0, 4), "5: 27 bytes, and its table has 28"),
+            (with(two[..39].to_vec(), 0, 3), "5: 39 bytes, and its table has 40"),
             (with(two.clone(), 4, 2), "6: the kind of section 1 is 2, where a trace has 1"),
             (with(two.clone(), 7, 1), "6: what follows the kind of section 1 is 256, where a trace has 0"),
             (with(two.clone(), 8, 27), "6: the offset of section 1 is 27, where a trace has 28"),
@@ -252,6 +251,15 @@ mod tests {
             (with(two.clone(), 24, 33), "6: the length of section 2 is 33, and a step has 16 bytes"),
             (with(two.clone(), 27, 1), "6: its table tells of 1,048,580 steps, where a trace has up to 1,000,000"),
             (with(three.clone(), 28, 9), "6: the kind of section 3 is 9, where a trace has 3"),
+            (with(three.clone(), 20, 0), "6: the offset of section 2 is 5,120, where a trace has 5,160"),
+            (with(three.clone(), 32, 0), "6: the offset of section 3 is 5,120, where a trace has 5,224"),
+            (with(three.clone(), 36, 0), "6: the length of section 3 is 5,120, where a trace has 5,132"),
+            (three[..40].to_vec(), "6: 40 bytes, the table says 10,356"),
+            (three[..5_159].to_vec(), "6: 5,159 bytes, the table says 10,356"),
+            (three[..5_161].to_vec(), "6: 5,161 bytes, the table says 10,356"),
+            (three[..5_224].to_vec(), "6: 5,224 bytes, the table says 10,356"),
+            (two[..28].to_vec(), "6: 28 bytes, the table says 5,212"),
+            (two[..5_148].to_vec(), "6: 5,148 bytes, the table says 5,212"),
             (two[..5_147].to_vec(), "6: 5,147 bytes, the table says 5,212"),
             (two[..5_200].to_vec(), "6: 5,200 bytes, the table says 5,212"),
             ([&two[..], &[0]].concat(), "6: it goes on behind its 5,212 bytes, which the table says"),
@@ -259,6 +267,7 @@ mod tests {
             ([&three[..], &[0]].concat(), "6: it goes on behind its 10,356 bytes, which the table says"),
             (with(three.clone(), 5_224, 5), "6: its checkpoint has consumed 5 steps, and there are 4"),
             (with(two.clone(), 5_148 + 48 + 6, 1), "7: byte 6 of step 3, byte 5,202 of the file, is 0x01, where padding is 0"),
+            (with(three.clone(), 5_160 + 63 - 8, 2), "7: byte 7 of step 3, byte 5,215 of the file, is 0x02, where padding is 0"),
             (with(three.clone(), 5_160 + 2, 0xff), "7: byte 2 of step 0, byte 5,162 of the file, is 0xff, where padding is 0"),
         ] {
             assert_eq!(fault(&file), format!("file refused {words}"));

@@ -31,6 +31,7 @@ impl Run {
     }
 
     /// Takes the next record: its place, and what its step answers. None where the checkpoint has consumed it.
+    #[must_use = "an answer that is dropped hides a refusal or a no-op"]
     pub fn take(&mut self, record: Record) -> Option<(usize, Answer)> {
         let place = self.place;
         self.place += 1;
@@ -38,6 +39,10 @@ impl Run {
     }
 
     /// Loads a register, as a text does between steps.
+    ///
+    /// # Panics
+    ///
+    /// Where there is no such register, as [`Load::apply`] does.
     pub fn load(&mut self, load: &Load) {
         load.apply(&mut self.state);
     }

@@ -298,14 +298,14 @@ pub(crate) const fn table_length(sections: usize) -> usize {
 
 /// Where a record begins, in a file of so many sections.
 pub(crate) fn record_at(record: usize, sections: usize) -> u64 {
-    (table_length(sections) + REGISTER_BYTES + RECORD * record) as u64
+    (table_length(sections) + REGISTER_BYTES) as u64 + RECORD as u64 * record as u64
 }
 
 /// The table of a trace of n records: the count of sections, then kind, zero, offset and length of each.
 pub(crate) fn table_of(n: usize, sections: usize) -> Vec<u8> {
-    let lengths = [REGISTER_BYTES, RECORD * n, CHECKPOINT_LENGTH];
-    let mut words = vec![sections];
-    let mut offset = table_length(sections);
+    let lengths = [REGISTER_BYTES as u64, RECORD as u64 * n as u64, CHECKPOINT_LENGTH as u64];
+    let mut words = vec![sections as u64];
+    let mut offset = table_length(sections) as u64;
     for (kind, length) in (1..).zip(lengths).take(sections) {
         words.extend([kind, offset, length]);
         offset += length;
@@ -384,11 +384,12 @@ impl std::error::Error for NoCheckpoint {}
 impl std::error::Error for NoRecord {}
 
 #[cfg(test)]
-mod tests {
+pub(crate) mod tests {
     use super::*;
     use crate::FileRefusal;
 
-    fn trace(n: usize) -> Trace {
+    /// A trace of so many records, none like another.
+    pub(crate) fn trace(n: usize) -> Trace {
         let mut trace = Trace::new(State::new());
         (0..n).for_each(|n| trace.push(Record { instruction: 14, generation: 1, operand: n as u64 }).unwrap());
         trace

@@ -237,8 +237,8 @@ impl fmt::Display for StepError {
             StepError::Empty => write!(f, "expected {} or raw", instructions()),
             StepError::Instruction(word) => write!(f, "expected {} or raw, not {word:?}", instructions()),
             StepError::Generation { instruction, word } => {
-                let word = word.as_deref().unwrap_or("the end of the line");
-                write!(f, "expected m1 or m2 after {}, not {word:?}", instruction.name())
+                let word = word.as_ref().map_or("the end of the line".to_owned(), |word| format!("{word:?}"));
+                write!(f, "expected m1 or m2 after {}, not {word}", instruction.name())
             }
             StepError::Raw(words) => write!(f, "expected instruction, generation and operand after raw, not {words} words"),
             StepError::Number(error) => error.fmt(f),
@@ -322,7 +322,7 @@ mod tests {
         for (line, words) in [
             ("", "expected fms64, mac16, vecint, vecfp or raw"),
             ("mac15 m1", "expected fms64, mac16, vecint, vecfp or raw, not \"mac15\""),
-            ("mac16", "expected m1 or m2 after mac16, not \"the end of the line\""),
+            ("mac16", "expected m1 or m2 after mac16, not the end of the line"),
             ("mac16 m3", "expected m1 or m2 after mac16, not \"m3\""),
             ("mac16 m1 vector vector", "vector is given twice"),
             ("mac16 m1 x_offset=1 x=1", "x is given twice"),

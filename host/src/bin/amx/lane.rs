@@ -94,7 +94,7 @@ mod tests {
         before.set_lane(Register::Y(0), 0, Width::Bits16, y);
         before.set_lane(Register::Z(0), 0, width, z);
         let mut run = Run::new(Trace::new(before.clone()).header());
-        run.take(call.try_into().unwrap());
+        assert!(run.take(call.try_into().unwrap()).is_some());
         let lane = Lane { row: 0, lane: 0, read_as };
         let effects = effects_on(&before, call, 0, lane.bytes());
         lane.reread(effects[0], &before, run.state()).to_string()

@@ -104,7 +104,7 @@ fn write_stretches(to: &str, steps: Steps) -> Result<Status, Failure> {
             Item::Step(record) => {
                 stretches.begin(run.state())?;
                 stretches.push(record)?;
-                run.take(record);
+                let _ = run.take(record); // a file has no answers: its run tells them
             }
             Item::Load(load) => {
                 stretches.end()?;
