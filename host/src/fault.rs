@@ -111,6 +111,36 @@ impl FileFault {
         }
     }
 
+    /// The fact alone, in words.
+    fn fact(self) -> String {
+        let (bytes, steps) = (|n: u64| counted(n, "byte"), |n: usize| counted(n as u64, "step"));
+        match self {
+            FileFault::Short { bytes: 0, .. } => "it is empty".to_owned(),
+            FileFault::Short { bytes: n, table } => format!("{}, and its table has {}", bytes(n), grouped(table)),
+            FileFault::Field { field: TableField::Sections, value, .. } => {
+                format!("its table tells of {}, where a trace has 2 or 3", counted(value.into(), "section"))
+            }
+            FileFault::Field { field: TableField::Length(2), value, .. } if !value.is_multiple_of(RECORD as u32) => {
+                format!("the length of section 2 is {}, and a step has {RECORD} bytes", grouped(value.into()))
+            }
+            FileFault::Field { field, value, expected } => {
+                format!("{field} is {}, where a trace has {}", grouped(value.into()), grouped(expected.into()))
+            }
+            FileFault::TooMany { records } => {
+                format!("its table tells of {}, where a trace has up to {}", steps(records), grouped(Trace::MAX_RECORDS as u64))
+            }
+            FileFault::Cut { bytes: n, told } => format!("{}, the table says {}", bytes(n), grouped(told)),
+            FileFault::Longer { told } => format!("it goes on behind its {}, which the table says", bytes(told)),
+            FileFault::Consumed { consumed, records } => {
+                format!("its checkpoint has consumed {}, and there are {}", steps(consumed), grouped(records as u64))
+            }
+            FileFault::Padding { record, byte, at, value } => {
+                let (record, at) = (grouped(record as u64), grouped(at));
+                format!("byte {byte} of step {record}, byte {at} of the file, is {value:#04x}, where padding is 0")
+            }
+        }
+    }
+
     /// What is wrong with a table of so many sections, if anything is. The length of the second section tells how many records there are.
     pub(crate) fn of_table(table: &[u8], sections: usize) -> Result<usize, Self> {
         let (value, records) = (word(table, 0, 4), word(table, 24, 4) as usize / RECORD);
@@ -161,44 +191,7 @@ impl fmt::Display for FileRefusal {
 impl fmt::Display for FileFault {
     fn fmt(&self, f: &mut fmt::Formatter) -> fmt::Result {
         self.refusal().fmt(f)?;
-        if !f.alternate() {
-            return Ok(());
-        }
-        let bytes = |n: u64| counted(n, "byte");
-        match *self {
-            FileFault::Short { bytes: 0, .. } => write!(f, ": it is empty"),
-            FileFault::Short { bytes: n, table } => write!(f, ": {}, and its table has {}", bytes(n), grouped(table)),
-            FileFault::Field { field: TableField::Sections, value, .. } => {
-                write!(f, ": its table tells of {}, where a trace has 2 or 3", counted(value.into(), "section"))
-            }
-            FileFault::Field { field: TableField::Length(2), value, .. } if !value.is_multiple_of(RECORD as u32) => {
-                write!(f, ": the length of section 2 is {}, and a step has {RECORD} bytes", grouped(value.into()))
-            }
-            FileFault::Field { field, value, expected } => {
-                write!(f, ": {field} is {}, where a trace has {}", grouped(value.into()), grouped(expected.into()))
-            }
-            FileFault::TooMany { records } => {
-                write!(
-                    f,
-                    ": its table tells of {} steps, where a trace has up to {}",
-                    grouped(records as u64),
-                    grouped(Trace::MAX_RECORDS as u64)
-                )
-            }
-            FileFault::Cut { bytes: n, told } => write!(f, ": {}, the table says {}", bytes(n), grouped(told)),
-            FileFault::Longer { told } => write!(f, ": it goes on behind its {}, which the table says", bytes(told)),
-            FileFault::Consumed { consumed, records } => {
-                write!(f, ": its checkpoint has consumed {}, and there are {}", counted(consumed as u64, "step"), grouped(records as u64))
-            }
-            FileFault::Padding { record, byte, at, value } => {
-                write!(
-                    f,
-                    ": byte {byte} of step {}, byte {} of the file, is {value:#04x}, where padding is 0",
-                    grouped(record as u64),
-                    grouped(at)
-                )
-            }
-        }
+        if f.alternate() { write!(f, ": {}", self.fact()) } else { Ok(()) }
     }
 }
 

@@ -28,17 +28,29 @@ impl Random {
         mixed ^ mixed >> 31
     }
 
-    /// A number below n, which is not 0.
+    /// A number below n.
+    ///
+    /// # Panics
+    ///
+    /// Where n is 0.
     pub fn below(&mut self, n: u64) -> u64 {
         (self.bits() >> 16) % n
     }
 
     /// True once in n times.
+    ///
+    /// # Panics
+    ///
+    /// Where n is 0.
     pub fn once_in(&mut self, n: u64) -> bool {
         self.below(n) == 0
     }
 
-    /// One of some items, which are not none.
+    /// One of some items.
+    ///
+    /// # Panics
+    ///
+    /// Where there are none.
     pub fn pick<T: Copy>(&mut self, items: &[T]) -> T {
         items[self.below(items.len() as u64) as usize]
     }

@@ -59,6 +59,23 @@ fn compare(options: &Options) -> Result<(), String> {
     println!("seed {seed}");
     // a seed of its own for each part, so that one does not depend on the others' lengths
     let random = |part| Random::new(seed.wrapping_mul(16) + part);
+    single_steps(random, steps)?;
+    float_steps(random, steps)?;
+    lists(random, steps)?;
+    files(random, steps)?;
+    if options.trace.is_file() {
+        trace_program(&options.trace, random, steps)?;
+    } else if options.need_trace {
+        return Err(format!("there is no trace program {}\n", options.trace.display()));
+    } else {
+        println!("note: trace program skipped, there is no {}", options.trace.display());
+    }
+    println!("no difference, {:.1} s", start.elapsed().as_secs_f64());
+    Ok(())
+}
+
+/// Steps of all instructions, each from a state of its own.
+fn single_steps(random: impl Fn(u64) -> Random, steps: u64) -> Result<(), String> {
     let counts = counts::every(case::proved)?;
     println!("{counts} steps, every enable mode, value and lane width: as many bytes counted as a walk over Z finds in enabled lanes");
     let mut tally = Tally::default();
@@ -70,6 +87,11 @@ fn compare(options: &Options) -> Result<(), String> {
     let mut tally = Tally::default();
     let drawn = steps::random(&mut random(1), steps, &mut tally)?;
     println!("{drawn} random steps: same bytes, same answers ({})", tally.text());
+    Ok(())
+}
+
+/// Operations on floats, and steps of them.
+fn float_steps(random: impl Fn(u64) -> Random, steps: u64) -> Result<(), String> {
     let operations = floats::rounding(&floats::IN_WHOLE_NUMBERS, &mut random(11), steps)?;
     println!("{operations} sums, differences and products: the reference's, in whole numbers, are the processor's");
     let mut tally = Tally::default();
@@ -80,6 +102,11 @@ fn compare(options: &Options) -> Result<(), String> {
     );
     let (floats, [vecfp, fms64]) = floats::random(&mut random(12), steps / 2)?;
     println!("{floats} random steps on floats: same bytes, same answers (vecfp: {}; fms64: {})", vecfp.text(), fms64.text());
+    Ok(())
+}
+
+/// Steps one after the other, normal operands, and steps that are swapped.
+fn lists(random: impl Fn(u64) -> Random, steps: u64) -> Result<(), String> {
     let lists = steps / 400;
     let (sequences, again) = steps::sequences(&mut random(2), lists)?;
     println!(
@@ -105,6 +132,11 @@ fn compare(options: &Options) -> Result<(), String> {
         swaps.no_room,
         swaps.no_room_differ
     );
+    Ok(())
+}
+
+/// Checkpoints, trace files, and such files cut in two.
+fn files(random: impl Fn(u64) -> Random, steps: u64) -> Result<(), String> {
     let checkpoints = cuts::checkpoints(cuts::proved_checkpoint, &mut random(8))?;
     println!("{checkpoints} checkpoints, of states and rooms of any length: the reference's bytes and answers");
     let (files, tally) = traces::reader(&mut random(5), steps / 200)?;
@@ -113,21 +145,9 @@ fn compare(options: &Options) -> Result<(), String> {
          and runs end at the count of steps taken ({})",
         tally.text()
     );
-    let (cut, tally) = cuts::cuts(
-        cuts::proved_cut,
-        &mut random(9),
-        steps / 1_000,
-        &[("this crate", &traces::read_text), ("the reference", &reference::trace)],
-    )?;
+    let texts: [(&str, traces::Text); 2] = [("this crate", &traces::read_text), ("the reference", &reference::trace)];
+    let (cut, tally) = cuts::cuts(cuts::proved_cut, &mut random(9), steps / 1_000, &texts)?;
     println!("{cut} cuts of traces: the reference's files, and the lines of both parts are those of the whole ({})", tally.text());
-    if options.trace.is_file() {
-        trace_program(&options.trace, random, steps)?;
-    } else if options.need_trace {
-        return Err(format!("there is no trace program {}\n", options.trace.display()));
-    } else {
-        println!("note: trace program skipped, there is no {}", options.trace.display());
-    }
-    println!("no difference, {:.1} s", start.elapsed().as_secs_f64());
     Ok(())
 }
 
