@@ -99,7 +99,7 @@ pub fn effects_on(state: &State, call: Call, row: usize, bytes: Range<usize>) ->
 
 fn effects_in(state: &State, call: Call, rows: Range<usize>, bytes: Range<usize>) -> Vec<LaneEffect> {
     let Call { instruction, generation, operand } = call;
-    let signed = reference::z_signs(instruction, operand).1;
+    let signed = reference::z_signed(instruction, operand);
     let mut effects = reference::effects(state.bytes(), instruction, generation, operand, rows, bytes);
     effects.sort_by_key(|(lane, _)| (lane.row, lane.lane));
     let float = matches!(Instruction::from_number(instruction), Some(Instruction::Fms64 | Instruction::Vecfp));
@@ -178,14 +178,15 @@ mod tests {
         let (mut random, mut kinds) = (Random::new(21), Vec::new());
         for _ in 0..2_000 {
             let (mut state, call) = (random.state(), random.call());
-            let mut by_hand = state.clone();
-            for effect in effects(&state, call) {
+            let (mut by_hand, effects) = (state.clone(), effects(&state, call));
+            assert!(effects.is_sorted_by_key(|effect| (effect.row, effect.lane)), "{call}");
+            for effect in effects {
                 let bytes = &mut by_hand.row_mut(Register::Z(effect.row))[effect.bytes * effect.lane..][..effect.bytes];
                 bytes.copy_from_slice(&stored(effect.new)[..effect.bytes]);
                 kinds.push(effect.kept);
             }
             let _ = step_due(&mut state, call); // whatever it answers
-            assert!(by_hand.registers() == state.registers(), "{}", call);
+            assert!(by_hand.registers() == state.registers(), "{call}");
         }
         assert!([Exact, Clamped, Wrapped].iter().all(|kind| kinds.contains(kind)));
     }
@@ -199,7 +200,7 @@ mod tests {
             let bytes = start..start + random.below(8) as usize;
             let mut all = effects(&state, call);
             all.retain(|effect| effect.row == row && (0..effect.bytes).any(|n| bytes.contains(&(effect.bytes * effect.lane + n))));
-            assert_eq!(effects_on(&state, call, row, bytes.clone()), all, "row {row}, bytes {bytes:?}, {}", call);
+            assert_eq!(effects_on(&state, call, row, bytes.clone()), all, "row {row}, bytes {bytes:?}, {call}");
         }
         for row in [64, 65, usize::MAX] {
             assert_eq!(effects_on(&State::new(), Call::new(14, 1, 0), row, 0..64), []);
@@ -278,8 +279,9 @@ mod tests {
         assert_eq!(z("widths=11 z_signed saturate saturate_signed", -300), old(-300, -300, -128, Clamped));
         assert_eq!(z("widths=11 z_signed saturate", -5), old(-5, -5, 0, Clamped));
         assert_eq!(z("widths=11 z_signed saturate", 300), old(300, 300, 255, Clamped));
-        // the saturation's sign reads what is stored: 65,535, where bit 63 would tell -1
+        // where the signs of Z and of the saturation differ, what is stored is the same number by both
         assert_eq!(z("saturate", -1), old(65_535, 65_535, 65_535, Exact));
+        assert_eq!(z("z_signed saturate", 32_767), old(32_767, 32_767, 32_767, Exact));
         assert_eq!(z("saturate saturate_signed", -1), old(65_535, 65_535, 32_767, Clamped));
         assert_eq!(z("widths=4 z_signed saturate", i64::from(i32::MIN)), old(-2_147_483_648, -2_147_483_648, 0, Clamped));
         // nothing is clamped: by bit 63 alone

@@ -261,7 +261,7 @@ impl Loaded {
         };
         let (x, y) = (side(false, reads_x), side(true, reads_y));
         let (forced_to_0, clamp) = (forced_to_0(instruction, generation, operand), clamp(instruction, operand));
-        Loaded { instruction, operand, forced_to_0, clamp, z_signed: z_signs(instruction, operand).0, x, y }
+        Loaded { instruction, operand, forced_to_0, clamp, z_signed: z_signed(instruction, operand), x, y }
     }
 
     /// The numbers of X, Y and Z that come together in a lane.
@@ -620,14 +620,12 @@ pub(crate) fn repeats(generation: u64, operand: u64) -> [bool; 2] {
     [matches!(broadcast, Some(2 | 6)), matches!(broadcast, Some(3 | 7))]
 }
 
-/// Whether a step takes its Z lanes for signed numbers: what was there, and what it leaves there.
-pub(crate) fn z_signs(instruction: u64, operand: u64) -> (bool, bool) {
-    let z_signed = bit(operand, 63);
+/// Whether a step takes its Z lanes for signed numbers. What mode 4 clamps to, by another sign, is the same number by this one.
+pub(crate) fn z_signed(instruction: u64, operand: u64) -> bool {
     match instruction {
-        14 => (true, true),
-        18 if alu_mode(operand) != 4 => (true, true),
-        18 => (z_signed, if bit(operand, 30) { bit(operand, 26) } else { z_signed }),
-        _ => (false, false), // patterns
+        18 if alu_mode(operand) == 4 => bit(operand, 63),
+        14 | 18 => true,
+        _ => false, // patterns
     }
 }
 
