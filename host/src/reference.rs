@@ -223,12 +223,12 @@ struct Loaded {
     /// The least and the greatest number, where a result is clamped.
     clamp: Option<(i64, i64)>,
     z_signed: bool,
-    x: Side,
-    y: Side,
+    /// X and Y; none where it is not read, and then 0, or +0, in every lane.
+    x: Option<Side>,
+    y: Option<Side>,
 }
 
-/// The numbers of X or Y, vector by vector; those of floats are patterns. A side that is not read has none, and is 0, or +0, in every lane.
-#[derive(Default)]
+/// The numbers of X or Y, vector by vector; those of floats are patterns.
 struct Side {
     lanes: usize,
     numbers: Vec<i64>,
@@ -246,7 +246,7 @@ impl Side {
     }
 
     fn lane(&self, vector: usize, lane: usize) -> i64 {
-        self.numbers.get(self.lanes * vector + lane).copied().unwrap_or(0)
+        self.numbers[self.lanes * vector + lane]
     }
 }
 
@@ -254,20 +254,20 @@ impl Loaded {
     fn new(state: &[u8], instruction: u64, generation: u64, operand: u64) -> Self {
         let operand = read_bits(instruction, operand);
         let [reads_x, reads_y] = reads(instruction, generation, operand);
-        let side = |y, read: bool| match instruction {
-            _ if !read => Side::default(),
+        let side = |y| match instruction {
             11 | 14 => matrix_side(state, instruction, operand, y),
             _ => vector_side(state, instruction, generation, operand, y),
         };
-        let (x, y) = (side(false, reads_x), side(true, reads_y));
+        let (x, y) = (reads_x.then(|| side(false)), reads_y.then(|| side(true)));
         let (forced_to_0, clamp) = (forced_to_0(instruction, generation, operand), clamp(instruction, operand));
         Loaded { instruction, operand, forced_to_0, clamp, z_signed: z_signed(instruction, operand), x, y }
     }
 
     /// The numbers of X, Y and Z that come together in a lane.
     fn numbers(&self, state: &[u8], lane: &Lane) -> [i64; 3] {
-        let z = number(&state[lane.start()..][..lane.bytes], self.z_signed);
-        [self.x.lane(lane.vector, lane.x), self.y.lane(lane.vector, lane.y), z]
+        let x = self.x.as_ref().map_or(0, |x| x.lane(lane.vector, lane.x));
+        let y = self.y.as_ref().map_or(0, |y| y.lane(lane.vector, lane.y));
+        [x, y, number(&state[lane.start()..][..lane.bytes], self.z_signed)]
     }
 
     /// What the operation gives for them.
