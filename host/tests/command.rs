@@ -362,6 +362,20 @@ fn repeated_steps_are_assembled_run_and_taken_apart() {
     assert_eq!(room.names(), ["repeat.amx", "repeat.txt", "wrong.txt"]);
 }
 
+/// Lines that end as on other systems, tabs, and the mark that some editors begin a text with.
+#[test]
+fn a_text_is_read_whatever_editor_wrote_it() {
+    let room = Room::new("editors");
+    let text = "x i16: 3\ny i16: 2  # 6\nrepeat r in 0..2 {\n  load z 5 i16: r\n  mac16 m1 vector z_row=r\n}\n";
+    let expected = said(&["run", name(&room.write("plain.txt", text))]);
+    let dos = text.replace('\n', "\r\n").replace("  ", "\t");
+    for other in [&dos, dos.trim_end(), &format!("\u{feff}{text}"), &format!("\u{feff}{dos}")] {
+        assert_eq!(said(&["run", name(&room.write("other.txt", other))]), expected, "{other:?}");
+    }
+    let later = room.write("later.txt", format!("{text}\u{feff}mac16 m1\n"));
+    fails(TEXT, &["run", name(&later)], "later.txt, line 7: expected fms64, mac16");
+}
+
 #[test]
 fn indexed_loads_are_assembled_run_and_taken_apart() {
     let room = Room::new("indexed");
@@ -383,9 +397,6 @@ fn indexed_loads_are_assembled_run_and_taken_apart() {
 #[test]
 fn help_says_all_of_it_and_wrong_words_are_refused() {
     let help = said(&["--help"]);
-    for word in ["amx run", "amx why", "amx diff", "amx picture", "amx asm", "amx dis", "amx cut", "amx explain", "amx lanes"] {
-        assert!(help.contains(word));
-    }
     // every field by its name
     for operand in [0, 1 << 31, 4 << 47, 1 << 53] {
         for instruction in amx::Instruction::ALL {
@@ -401,7 +412,7 @@ fn help_says_all_of_it_and_wrong_words_are_refused() {
         "expected a command (run, why, diff, picture, asm, dis, cut, explain, lanes), not \"assemble\"; amx --help tells more",
     );
     fails(USAGE, &["asm", "text"], "expected asm TEXT -o TRACE: -o is missing");
-    fails(USAGE, &["dis"], "expected dis TRACE [--as TYPE]: there are 0 words");
-    fails(USAGE, &["run"], "expected run FILE [--as TYPE | --matrix] [--strict] [--summary | --json]: there are 0 words");
+    fails(USAGE, &["dis"], "expected dis TRACE [--as TYPE]: 0 words given");
+    fails(USAGE, &["run"], "expected run FILE [--as TYPE | --matrix] [--strict] [--summary | --json]: 0 words given");
     fails(USAGE, &["run", "a", "--loud"], "there is no option --loud");
 }

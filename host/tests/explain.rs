@@ -43,7 +43,7 @@ fn an_operand_is_explained() {
         "{text}"
     );
     fails(USAGE, &["explain", "15", "1", "0"], "refused 3: the instruction is not 11 (fms64), 14 (mac16), 18 (vecint) or 19 (vecfp)");
-    fails(USAGE, &["explain", "14", "1"], "expected explain INSTRUCTION GENERATION OPERAND, or a step as in a text: there are 2 numbers");
+    fails(USAGE, &["explain", "14", "1"], "expected explain INSTRUCTION GENERATION OPERAND, or a step as in a text: 2 numbers given");
     fails(USAGE, &["explain"], "expected explain INSTRUCTION GENERATION OPERAND");
     fails(USAGE, &["explain", "14", "1", "1e3"], "expected a number of 64 bits (12, 0x1f or 0b101), not \"1e3\"");
     fails(USAGE, &["explain", "mac17", "m1"], "not \"mac17\"");

@@ -285,7 +285,7 @@ fn a_wrong_place_to_begin_is_told() {
         fails(USAGE, &["picture", name(&file), "--from", from, "-o", name(&page)], words);
     }
     fails(USAGE, &["picture", name(&file)], "-o is missing");
-    fails(USAGE, &["picture", "-o", name(&page)], "there are 0 words");
+    fails(USAGE, &["picture", "-o", name(&page)], "0 words given");
     assert_eq!(room.names(), ["one.txt"]);
 }
 

@@ -119,6 +119,8 @@ fn a_run_is_summed_up() {
     let file = room.write("trace", trace().to_bytes());
     let output = amx(&["run", name(&file)]);
     assert_eq!((text_of(&output.stdout), text_of(&output.stderr)), (lines().as_str(), format!("{}: {SUMMARY}", name(&file)).as_str()));
+    let output = fed(&["run", "-"], &trace().to_bytes(), 4_096);
+    assert_eq!(text_of(&output.stderr), format!("standard input: {SUMMARY}"));
     let output = amx(&["run", name(&file), "--summary"]);
     assert_eq!((text_of(&output.stdout), output.stderr.len()), (SUMMARY, 0));
     let output = amx(&["run", name(&file), "--json"]);
@@ -126,12 +128,32 @@ fn a_run_is_summed_up() {
         "{{\"unit\":\"{}\",\"file\":\"{}\",\"consumed\":0,\"steps\":3,\"done\":{{\"steps\":1,\"z_bytes\":64,\"no_lane\":0}},\
          \"no_op\":[{{\"number\":1,\"words\":\"no-op 1: bits 54..56 are not all 0\",\"steps\":1,\"first\":1}}],\
          \"refused\":[{{\"number\":3,\"words\":\"refused 3: the instruction is not 11 (fms64), 14 (mac16), 18 (vecint) or 19 (vecfp)\",\
-         \"steps\":1,\"first\":2}}],\"rows\":[{{\"row\":0,\"hex\":\"0600{}\"}}],\"file_refused\":null}}\n",
+         \"steps\":1,\"first\":2}}],\"rows\":[{{\"row\":0,\"hex\":\"0600{}\"}}],\"file_refused\":null,\"error\":null}}\n",
         UNIT_NOTE.unwrap_or("the proved unit"),
         name(&file),
         "0".repeat(124)
     );
     assert_eq!((text_of(&output.stdout), output.stderr.len()), (json.as_str(), 0));
+}
+
+#[test]
+fn what_cannot_be_run_is_told_in_json_too() {
+    let room = Room::new("json");
+    for (file, status, words) in [
+        (room.write("a \"b\"\n", "mac16 m3\n"), TEXT, "a \\\"b\\\"\\u000a, line 1: expected m1 or m2"),
+        (room.0.join("absent"), FILE, "absent: No such file or directory (os error 2)"),
+        (room.write("empty", ""), REFUSED, "empty: file refused 5: it is empty"),
+    ] {
+        let output = amx(&["run", "--json", name(&file)]);
+        let json = text_of(&output.stdout);
+        assert_eq!((output.status.code(), json.lines().count()), (Some(status), 1), "{output:?}");
+        assert!(
+            json.contains("\"steps\":0,\"done\":{\"steps\":0,\"z_bytes\":0,\"no_lane\":0},\"no_op\":[],\"refused\":[],\"rows\":[],"),
+            "{json}"
+        );
+        assert!(json.contains(&format!("\"error\":{{\"status\":{status},\"words\":\"")) && json.contains(words), "{json}");
+        assert!(json.ends_with("\"}}\n") && text_of(&output.stderr).starts_with("amx: "), "{output:?}");
+    }
 }
 
 #[test]
@@ -151,8 +173,10 @@ fn a_refused_file_is_told_with_the_fact() {
         let message = format!("amx: {}: file refused {number}: {fact}\n", name(&file));
         assert!(text_of(&output.stderr).ends_with(&message), "{output:?}");
         let output = amx(&["run", "--json", name(&file)]);
-        let refused = format!("\"rows\":[],\"file_refused\":{{\"number\":{number},\"words\":\"file refused {number}: {fact}\"}}}}\n");
-        assert!(output.status.code() == Some(REFUSED) && text_of(&output.stdout).ends_with(&refused), "{output:?}");
+        let refused = format!(
+            "\"rows\":[],\"file_refused\":{{\"number\":{number},\"words\":\"file refused {number}: {fact}\"}},\"error\":{{\"status\":4,"
+        );
+        assert!(output.status.code() == Some(REFUSED) && text_of(&output.stdout).contains(&refused), "{output:?}");
         // what was run before is summed up too
         let output = amx(&["run", "--summary", name(&file)]);
         let said = text_of(&output.stdout);
@@ -169,7 +193,17 @@ fn a_full_disk_is_told() {
         assert_eq!(output.status.code(), Some(FILE), "{line}");
         assert!(text_of(&output.stderr).contains("amx: standard output: No space left on device"), "{output:?}");
     }
+    for line in ["asm \"$2\" -o -", "cut \"$2\" --after 1 -o -", "picture \"$2\" -o -", "why \"$2\" z 0 0", "diff \"$2\" \"$2\""] {
+        let output = shell(&format!("\"$1\" {line} > /dev/full"), &[name(&text)]);
+        assert_eq!(output.status.code(), Some(FILE), "{line}");
+        assert_eq!(text_of(&noted(output).stderr), "amx: standard output: No space left on device (os error 28)\n", "{line}");
+    }
     fails(FILE, &["asm", name(&text), "-o", "/dev/full"], "/dev/full: No space left on device");
+    // names that cannot be told are given to no file
+    let loads = room.write("loads", "mac16 m1\nload x 0 i8: 1\nmac16 m1\n");
+    let output = shell("\"$1\" asm \"$2\" -o \"$3\" > /dev/full", &[name(&loads), name(&room.0.join("stretch"))]);
+    assert_eq!(output.status.code(), Some(FILE), "{output:?}");
+    fs::remove_file(loads).unwrap();
     // a file that cannot grow: the old one stays, and nothing else is left
     let old = room.write("old", "old");
     let limited = "trap '' XFSZ; ulimit -f 2; \"$1\" asm \"$2\" -o \"$3\"";
@@ -184,12 +218,14 @@ fn a_full_disk_is_told() {
 #[test]
 fn who_stops_reading_is_told_no_more() {
     let room = Room::new("stops");
-    let text = room.write("text", "mac16 m1 vector\n".repeat(100_000));
-    let mut command = Command::new(env!("CARGO_BIN_EXE_amx"));
-    let mut child = command.args(["run", name(&text)]).stdout(Stdio::piped()).stderr(Stdio::piped()).spawn().unwrap();
-    child.stdout.take().unwrap().read_exact(&mut [0; 14]).unwrap();
-    let output = noted(child.wait_with_output().unwrap());
-    assert_eq!((output.status.code(), output.stderr.len()), (Some(FILE), 0));
+    let text = room.write("text", "mac16 m1 vector\n".repeat(20_000));
+    for arguments in [&["run", name(&text)][..], &["asm", name(&text), "-o", "-"], &["picture", name(&text), "-o", "-"]] {
+        let mut command = Command::new(env!("CARGO_BIN_EXE_amx"));
+        let mut child = command.args(arguments).stdout(Stdio::piped()).stderr(Stdio::piped()).spawn().unwrap();
+        child.stdout.take().unwrap().read_exact(&mut [0; 14]).unwrap();
+        let output = noted(child.wait_with_output().unwrap());
+        assert_eq!((output.status.code(), output.stderr.len()), (Some(FILE), 0), "{arguments:?}");
+    }
     // and a standard error that is closed changes nothing
     let output = shell("\"$1\" run --strict \"$2\" 2>&-", &[name(&room.write("steps", STEPS))]);
     assert_eq!((output.status.code(), text_of(&output.stdout)), (Some(STRICT), lines().as_str()));
@@ -206,10 +242,22 @@ fn what_is_read_is_not_written_to() {
         fails(USAGE, &["asm", name(&text), "-o", name(target)], "this is what is read, and would be lost: name another file");
     }
     fails(USAGE, &["cut", name(&file), "--after", "1", "-o", name(&file)], "would be lost");
-    for line in ["\"$1\" run \"$2\" >> \"$2\"", "\"$1\" dis \"$2\" >> \"$2\""] {
+    for (line, input) in [
+        ("\"$1\" run \"$2\" >> \"$2\"", "trace"),
+        ("\"$1\" run --json \"$2\" >> \"$2\"", "trace"),
+        ("\"$1\" dis \"$2\" >> \"$2\"", "trace"),
+        ("\"$1\" run - < \"$2\" >> \"$2\"", "standard input"),
+    ] {
         let output = shell(line, &[name(&file)]);
         assert_eq!(output.status.code(), Some(USAGE));
-        assert!(text_of(&output.stderr).contains("trace: standard output goes to this file, which is read\n"), "{output:?}");
+        let message = format!("{input}: standard output goes to this file, which is read\n");
+        assert!(text_of(&output.stderr).contains(&message), "{output:?}");
+    }
+    // standard input is a file too
+    for line in ["asm - -o \"$2\" < \"$2\"", "asm /dev/stdin -o \"$2\" < \"$2\"", "picture - -o \"$2\" < \"$2\""] {
+        let output = shell(&format!("\"$1\" {line}"), &[name(&text)]);
+        assert_eq!(output.status.code(), Some(USAGE), "{line}");
+        assert!(text_of(&output.stderr).contains("text: this is what is read, and would be lost"), "{output:?}");
     }
     assert!(fs::read(&text).unwrap() == STEPS.as_bytes() && fs::read(&file).unwrap() == trace().to_bytes());
     assert_eq!(room.names(), ["hard", "link", "text", "trace"]);
@@ -267,5 +315,12 @@ fn what_is_of_the_wrong_kind_is_told_so() {
         &["asm", name(&file), "-o", name(&out)],
         "trace: this is no text: it has a byte 0, as a trace file has; amx dis prints its text",
     );
+    let text = room.write("text", STEPS);
+    fails(
+        USAGE,
+        &["dis", name(&text)],
+        "text: this is no trace file: it has no byte 0 among its first 28; amx asm makes a trace of a text",
+    );
+    fs::remove_file(text).unwrap();
     assert_eq!(room.names(), ["trace"]);
 }

@@ -66,11 +66,37 @@ fn lanes_of_other_widths_that_share_bytes_are_told() {
          load z 0: 1 becomes 5\n\
          step 1 mac16 m1 z_i32 x_enable_mode=1 y_enable_mode=1: lane 0 of 32 bits: x 1, y 1, z 5 gives 6; so 5 becomes 6\n\
          z 0 lane 0 (i16) was 0 and is 6: 2 of 2 steps wrote it\n\
-         steps write lanes of 32 bits in row 0 too: --as tells which lanes are meant\n"
+         steps write lanes of 32 bits in row 0, 0 to 15: --as tells which are meant\n"
     );
     assert_eq!(
         said(&["why", name(&text), "z", "0", "0", "--as", "i32"]).lines().next().unwrap(),
         "step 0 mac16 m1 vector: lane 0 of 16 bits: x 1, y 1, z 0 gives 1; lane 1 of 16 bits: x 1, y 1, z 0 gives 1; so 0 becomes 65537"
+    );
+}
+
+#[test]
+fn loads_are_told_whenever_they_come() {
+    let room = Room::new("told-loads");
+    // before it is known how the lane is read, and in a row that no step writes
+    let text = room.write(
+        "text",
+        "x i16: 1\ny i16: 1\nload z 0 i16: 5\nload z 0 i32: 7\nload z 9 i16: -1\nmac16 m1 z_i32 x_enable_mode=1 y_enable_mode=1\nload z 0 i32: -1\n",
+    );
+    assert_eq!(
+        said(&["why", name(&text), "z", "0", "0"]),
+        "load z 0 2 times: 0 becomes 7\n\
+         step 0 mac16 m1 z_i32 x_enable_mode=1 y_enable_mode=1: x 1, y 1, z 7 gives 8\n\
+         load z 0: 8 becomes -1\n\
+         z 0 lane 0 (i32) was 0 and is -1: 1 of 1 step wrote it\n"
+    );
+    let loaded = |lane: &str| said(&["why", name(&text), "z", "9", lane]);
+    assert_eq!(loaded("0"), "load z 9: 0 becomes -1\nz 9 lane 0 (i16) was 0 and is -1: 0 of 1 step wrote it\n");
+    assert_eq!(loaded("40"), "load z 9: 0 becomes 0\nz 9 lane 40 (i8) was 0 and is 0: 0 of 1 step wrote it\n");
+    // a number that the lanes of the row do not have
+    let wide = room.write("wide", "mac16 m1 z_i32\n");
+    assert_eq!(
+        said(&["why", name(&wide), "z", "3", "20"]),
+        "z 3 lane 20: no step of 1 wrote it\nsteps write lanes of 32 bits in row 3, 0 to 15: --as tells which are meant\n"
     );
 }
 
@@ -99,8 +125,8 @@ fn words_that_name_no_lane_are_refused() {
         (&["why", name(&text), "z", "3", "64"], "LANE is 0 to 63, not \"64\""),
         (&["why", name(&text), "z", "3", "32", "--as", "i16"], "LANE is 0 to 31, not \"32\""),
         (&["why", name(&text), "x", "3", "0"], "steps write z, not \"x\""),
-        (&["why", name(&text), "z", "3"], "expected why FILE z ROW LANE [--as TYPE]: there are 3 words"),
-        (&["diff", name(&text)], "expected diff A B [--as TYPE]: there are 1 words"),
+        (&["why", name(&text), "z", "3"], "expected why FILE z ROW LANE [--as TYPE]: 3 words given"),
+        (&["diff", name(&text)], "expected diff A B [--as TYPE]: 1 word given"),
         (&["diff", "-", "-"], "standard input is read once, and cannot be both"),
     ] {
         fails(USAGE, words, message);
@@ -112,7 +138,7 @@ fn words_that_name_no_lane_are_refused() {
 
 /// What `diff` says, and its status.
 fn parts(a: &str, b: &str) -> (i32, String) {
-    let room = Room::new(&format!("diff-{}", a.len() * 1_000 + b.len()));
+    let room = Room::new("diff");
     let output = amx(&["diff", name(&room.write("a", a)), name(&room.write("b", b))]);
     let text = String::from_utf8(output.stdout).unwrap().replace(&format!("{}/", name(&room.0)), "");
     (output.status.code().unwrap(), text)
@@ -128,14 +154,14 @@ fn two_traces_part_in_a_step_and_a_lane() {
             "step 2 parts them: z 3 lane 0 (i16) is 2 and 1\n\
              \x20 a: vecint m1 mode=4 z_signed shift=2 rounding z_row=3: done 64 bytes, z 6 gives 2\n\
              \x20 b: vecint m1 mode=4 z_signed shift=2 z_row=3: done 64 bytes, z 6 gives 1\n\
-             after it 1 lane more of z differ\n"
+             after it 1 more lane of z differs\n"
                 .to_owned()
         )
     );
     let (status, text) = parts(KERNEL, &KERNEL.replace("2 7", "2 8"));
     assert_eq!(status, 1);
-    assert!(text.starts_with("before step 0: y 0 lane 1 (i16) is 7 and 8, and no other lane of y differ\nstep 0 parts them: z 3 lane 1 (i16) is -21 and -24\n"), "{text}");
-    assert!(text.ends_with("x -3, y 8, z 0 gives -24\nafter it no other lane of z differ\n"), "{text}");
+    assert!(text.starts_with("before step 0: y 0 lane 1 (i16) is 7 and 8, and no other lane of y differs\nstep 0 parts them: z 3 lane 1 (i16) is -21 and -24\n"), "{text}");
+    assert!(text.ends_with("x -3, y 8, z 0 gives -24\nafter it no other lane of z differs\n"), "{text}");
 }
 
 #[test]
@@ -147,11 +173,51 @@ fn answers_ends_and_steps_that_change_nothing_are_told() {
     let (_, text) = parts(KERNEL, &KERNEL.replacen("z_row=4", "z_row=5", 1));
     assert!(text.contains("  b: mac16 m1 vector z_row=5: done 64 bytes, and does not write it\n"), "{text}");
     let (status, text) = parts(KERNEL, &format!("{KERNEL}mac16 m1\n"));
-    assert_eq!((status, text.as_str()), (1, "a ends after 4 steps, and b goes on: up to there nothing parts them\n"));
+    assert_eq!((status, text.as_str()), (1, "a ends after 4 steps, and b goes on: no step up to there parts them\n"));
     // another operand with the same effect
     let (status, text) = parts(KERNEL, &KERNEL.replace("mac16 m1 vector z_row=4", "mac16 m2 vector z_row=4"));
-    let lines = "step 1 differs: mac16 m1 vector z_row=4 and mac16 m2 vector z_row=4\n4 steps: the same answers, and Z parts in no step\n";
+    let lines = "step 1 differs, and does the same: mac16 m1 vector z_row=4 and mac16 m2 vector z_row=4\n4 steps: the same answers, and Z parts in no step\n";
     assert_eq!((status, text.as_str()), (1, lines));
+}
+
+#[test]
+fn registers_that_loads_make_differ_are_told() {
+    let step = "mac16 m1 vector\n";
+    let same = "2 steps: the same answers, and Z parts in no step\n";
+    for (loads, told) in [
+        ("load z 5 i16: 1 2", "before step 1: z 5 lane 0 (i16) is 0 and 1, and 1 more lane of z differs\n"),
+        ("load x 5 i16: 0 7", "before step 1: x 5 lane 1 (i16) is 0 and 7, and no other lane of x differs\n"),
+    ] {
+        assert_eq!(parts(&step.repeat(2), &format!("{step}{loads}\n{step}")), (1, format!("{told}{same}")));
+        let at_end = told.replace("before step 1", "at the end");
+        assert_eq!(parts(&step.repeat(2), &format!("{step}{step}{loads}\n")), (1, format!("{at_end}{same}")));
+    }
+    // what they load may part the traces in a step
+    let kernel = "x i16: 1\ny i16: 1\nmac16 m1 vector\n";
+    let (status, text) = parts(&format!("{kernel}load y 0 i16: 2\n{step}"), &format!("{kernel}load y 0 i16: 3\n{step}"));
+    let first =
+        "before step 1: y 0 lane 0 (i16) is 2 and 3, and no other lane of y differs\nstep 1 parts them: z 0 lane 0 (i16) is 3 and 4\n";
+    assert!(status == 1 && text.starts_with(first), "{text}");
+}
+
+/// A lane that differs from the start does not part them when the difference reaches another byte.
+#[test]
+fn a_lane_that_differed_before_is_not_parted() {
+    let text = |z: i32| format!("x i16: 1\ny i16: 1\nz 0 i16: {z}\nrepeat r in 0..3 {{ mac16 m1 vector }}\n");
+    let told = "before step 0: z 0 lane 0 (i16) is 253 and 254, and no other lane of z differs\n";
+    assert_eq!(parts(&text(253), &text(254)), (1, format!("{told}3 steps: the same answers, and Z parts in no step\n")));
+}
+
+#[test]
+fn one_that_ends_before_the_other_begins_is_told() {
+    let room = Room::new("short");
+    let rest = room.write("rest", text::assemble(KERNEL).unwrap().cut(2).unwrap().to_bytes());
+    let short = room.write("short", "mac16 m1 vector\n");
+    for files in [[&short, &rest], [&rest, &short]] {
+        let output = amx(&["diff", name(files[0]), name(files[1])]);
+        let told = format!("{} ends after 1 step, and {} goes on from step 2\n", name(&short), name(&rest));
+        assert_eq!((output.status.code(), String::from_utf8(output.stdout).unwrap()), (Some(1), told));
+    }
 }
 
 #[test]

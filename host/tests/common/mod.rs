@@ -6,6 +6,7 @@ use std::{
     io::Write,
     path::{Path, PathBuf},
     process::{Command, Output, Stdio},
+    sync::atomic::{AtomicUsize, Ordering},
     thread,
 };
 
@@ -14,7 +15,9 @@ pub struct Room(pub PathBuf);
 
 impl Room {
     pub fn new(name: &str) -> Self {
-        let path = std::env::temp_dir().join(format!("amx-front-door-{}-{name}", std::process::id()));
+        static ROOMS: AtomicUsize = AtomicUsize::new(0);
+        let number = ROOMS.fetch_add(1, Ordering::Relaxed);
+        let path = std::env::temp_dir().join(format!("amx-front-door-{}-{number}-{name}", std::process::id()));
         fs::create_dir_all(&path).unwrap();
         Room(path)
     }

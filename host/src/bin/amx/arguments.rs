@@ -1,5 +1,6 @@
 //! The words behind a command: what stands by place, and options.
 use crate::failure::Failure;
+use amx::words::counted;
 
 /// The options that a command has: those that stand alone, and those that a value follows.
 pub struct Options {
@@ -53,7 +54,7 @@ impl Arguments {
     /// The words by place, which are as many as there are names.
     pub fn places<const N: usize>(&self) -> Result<[&str; N], Failure> {
         let places: Vec<&str> = self.places.iter().map(String::as_str).collect();
-        places.try_into().map_err(|places: Vec<&str>| self.wrong(&format!("there are {} words", places.len())))
+        places.try_into().map_err(|places: Vec<&str>| self.wrong(&format!("{} given", counted(places.len() as u64, "word"))))
     }
 
     /// All words by place, which are none or more.
@@ -113,7 +114,7 @@ mod tests {
             assert_eq!(parse(words).unwrap_err(), format!("expected do FILE: {message}"));
         }
         let arguments = parse(&["a", "b"]).unwrap();
-        assert_eq!(arguments.places::<1>().unwrap_err().to_string(), "expected do FILE: there are 2 words");
+        assert_eq!(arguments.places::<1>().unwrap_err().to_string(), "expected do FILE: 2 words given");
         assert_eq!(arguments.needed("-o").unwrap_err().to_string(), "expected do FILE: -o is missing");
     }
 }

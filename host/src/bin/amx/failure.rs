@@ -1,4 +1,5 @@
 //! How the command ends, and why it does not go on.
+use crate::json;
 use amx::{FileFault, ReadError, text::TextError};
 use std::{
     fmt,
@@ -62,6 +63,18 @@ impl Failure {
             Failure::Refused(..) => Status::Refused,
             Failure::Text(..) => Status::Text,
         }
+    }
+
+    /// Why a trace file is refused, where it is.
+    pub fn fault(&self) -> Option<FileFault> {
+        match self {
+            Failure::Refused(_, fault) => Some(*fault),
+            _ => None,
+        }
+    }
+
+    pub fn json(&self) -> String {
+        format!("{{\"status\":{},\"words\":{}}}", self.status() as u8, json::string(&self.to_string()))
     }
 
     /// Whoever reads standard output may stop reading, and is told no more.

@@ -52,17 +52,19 @@ pub struct Steps {
     items: Box<dyn Iterator<Item = Result<Item, Failure>>>,
 }
 
+/// An input as messages call it.
+pub fn called(name: &str) -> &str {
+    if name == "-" { "standard input" } else { name }
+}
+
 impl Input {
     pub fn open(name: &str) -> Result<Self, Failure> {
         if name == "-" {
-            return Self::begin("standard input", Box::new(io::stdin()), None);
+            return Self::begin(called(name), Box::new(io::stdin()), Identity::of_stream(io::stdin()));
         }
         let failed = |error: io::Error| Failure::of_file(name, error);
         let file = File::open(name).map_err(failed)?;
         let identity = Identity::of(Path::new(name), &file.metadata().map_err(failed)?);
-        if identity.is_some() && identity == Identity::of_standard_output() {
-            return Err(Failure::Usage(format!("{name}: standard output goes to this file, which is read")));
-        }
         let mut input = Self::begin(name, Box::new(file.try_clone().map_err(failed)?), identity)?;
         if input.identity.is_some() {
             (&file).rewind().map_err(failed)?;
@@ -72,6 +74,9 @@ impl Input {
     }
 
     fn begin(name: &str, mut from: Box<dyn Read>, identity: Option<Identity>) -> Result<Self, Failure> {
+        if identity.is_some() && identity == Identity::of_stream(io::stdout()) {
+            return Err(Failure::Usage(format!("{name}: standard output goes to this file, which is read")));
+        }
         let mut first = Vec::new();
         from.by_ref().take(TABLE as u64).read_to_end(&mut first).map_err(|error| Failure::of_file(name, error))?;
         if first.is_empty() {
@@ -93,6 +98,11 @@ impl Input {
     /// The steps of a trace. One of three sections is read twice.
     pub fn trace(self) -> Result<Steps, Failure> {
         let (name, identity) = (self.name, self.identity);
+        if !self.first.contains(&0) {
+            let message =
+                format!("{name}: this is no trace file: it has no byte 0 among its first {TABLE}; amx asm makes a trace of a text");
+            return Err(Failure::Usage(message));
+        }
         match self.from {
             From::File(file) => Steps::of_trace(name, identity, TraceReader::seekable(file)),
             From::Once(from) => {

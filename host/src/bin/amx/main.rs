@@ -17,7 +17,7 @@ use crate::{
     arguments::{Arguments, Options},
     failure::{Failure, Status},
 };
-use amx::{Call, UNIT_NOTE, explain, lane_grid, text::StepError};
+use amx::{Call, UNIT_NOTE, explain, lane_grid, text::StepError, words::counted};
 use std::{
     env,
     io::{self, Write},
@@ -99,12 +99,29 @@ fn step(arguments: &Arguments) -> Result<Call, Failure> {
     let line = arguments.all().join(" ");
     let numbers = line.starts_with(|first: char| first.is_ascii_digit());
     let call = match line.as_str() {
-        "" => return Err(arguments.wrong("there are 0 words")),
+        "" => return Err(arguments.wrong("0 words given")),
         _ if numbers => format!("raw {line}").parse(),
         _ => line.parse(),
     };
     call.map_err(|error| match error {
-        StepError::Raw(words) if numbers => arguments.wrong(&format!("there are {words} numbers")),
+        StepError::Raw(words) if numbers => arguments.wrong(&format!("{} given", counted(words as u64, "number"))),
         error => arguments.wrong(&error.to_string()),
     })
+}
+
+#[cfg(test)]
+mod tests {
+    use super::*;
+
+    #[test]
+    fn help_has_every_command_and_option_and_fits_a_terminal() {
+        for (name, options, _) in &COMMANDS {
+            assert!(HELP.lines().any(|line| line.starts_with(&format!("  amx {name} "))), "{name}");
+            for option in options.alone.iter().chain(options.valued) {
+                assert!(HELP.contains(option), "{option}");
+            }
+        }
+        let widest = HELP.lines().map(|line| line.chars().count()).max();
+        assert!(widest.is_some_and(|columns| columns <= 140), "{widest:?}");
+    }
 }

@@ -2,7 +2,6 @@
 use crate::failure::Failure;
 use amx::UNIT_NOTE;
 use std::{
-    ffi::OsString,
     fs::{self, File, Metadata, OpenOptions},
     io::{self, BufWriter, ErrorKind, Seek, SeekFrom, StdoutLock, Write},
     path::{Path, PathBuf},
@@ -26,15 +25,15 @@ impl Identity {
         fs::canonicalize(path).ok().filter(|_| metadata.is_file()).map(Identity)
     }
 
-    /// Of the file that standard output goes to, where it does.
-    pub fn of_standard_output() -> Option<Self> {
-        #[cfg(unix)]
-        {
-            use std::os::fd::AsFd;
-            let file = File::from(io::stdout().as_fd().try_clone_to_owned().ok()?);
-            Self::of(Path::new(""), &file.metadata().ok()?)
-        }
-        #[cfg(not(unix))]
+    /// Of the file that standard input comes from or standard output goes to, where there is one.
+    #[cfg(unix)]
+    pub fn of_stream(stream: impl std::os::fd::AsFd) -> Option<Self> {
+        let file = File::from(stream.as_fd().try_clone_to_owned().ok()?);
+        Self::of(Path::new(""), &file.metadata().ok()?)
+    }
+
+    #[cfg(not(unix))]
+    pub fn of_stream<S>(_: S) -> Option<Self> {
         None
     }
 }
@@ -46,6 +45,11 @@ pub fn lines() -> io::Result<BufWriter<StdoutLock<'static>>> {
         writeln!(output, "# {note}")?;
     }
     Ok(output)
+}
+
+/// Why an output, by its name, cannot be written.
+pub fn failed(name: &str) -> impl Fn(io::Error) -> Failure {
+    move |error| if name == "-" { Failure::Output(error) } else { Failure::of_file(name, error) }
 }
 
 /// A file that is being written. It has its name when it is committed: before that it has a new one, and is removed where it is dropped.
@@ -73,23 +77,23 @@ enum To {
 impl Output {
     /// Begins a file. One that is an input, by whatever name, would be lost, and is not written to.
     pub fn create(name: &str, inputs: &[Identity]) -> Result<Self, Failure> {
-        let (path, failed) = (Path::new(name), |error: io::Error| Failure::of_file(name, error));
         if name == "-" {
-            return Ok(Output { name: "standard output".to_owned(), to: To::StandardOutput(io::stdout()), names: None });
+            return Ok(Output { name: name.to_owned(), to: To::StandardOutput(io::stdout()), names: None });
         }
+        let (path, failed) = (Path::new(name), failed(name));
         let there = fs::metadata(path).ok();
         if there.as_ref().and_then(|there| Identity::of(path, there)).is_some_and(|file| inputs.contains(&file)) {
             return Err(Failure::Usage(format!("{name}: this is what is read, and would be lost: name another file to write")));
         }
         if there.is_some() {
             // what may not be written to is not replaced either
-            let file = OpenOptions::new().write(true).open(path).map_err(failed)?;
+            let file = OpenOptions::new().write(true).open(path).map_err(&failed)?;
             if there.as_ref().is_some_and(|there| !there.is_file()) {
                 return Ok(Output { name: name.to_owned(), to: To::File(file), names: None });
             }
         }
         let whole = linked(path);
-        let (part, file) = create_beside(&whole).map_err(failed)?;
+        let (part, file) = create_beside(&whole).map_err(&failed)?;
         let output = Output { name: name.to_owned(), to: To::File(file), names: Some((part.clone(), whole)) };
         if let Some(there) = there {
             fs::set_permissions(&part, there.permissions()).map_err(failed)?;
@@ -103,7 +107,7 @@ impl Output {
             (To::File(file), Some(_)) => file.sync_all(),
             (to, _) => to.flush(),
         };
-        settled.map_err(|error| Failure::of_file(&self.name, error))?;
+        settled.map_err(failed(&self.name))?;
         Ok(Finished { name: std::mem::take(&mut self.name), names: self.names.take() })
     }
 }
@@ -114,7 +118,7 @@ impl Finished {
         match self.names.take() {
             Some((part, whole)) => {
                 let renamed = fs::rename(&part, &whole).inspect_err(|_| drop(fs::remove_file(&part)));
-                renamed.map_err(|error| Failure::of_file(&self.name, error))
+                renamed.map_err(failed(&self.name))
             }
             None => Ok(()),
         }
@@ -148,13 +152,10 @@ fn linked(path: &Path) -> PathBuf {
 
 /// A new file in the same directory: no file that is there is written to.
 fn create_beside(whole: &Path) -> io::Result<(PathBuf, File)> {
-    let name = whole.file_name().ok_or_else(|| io::Error::new(ErrorKind::InvalidInput, "expected the name of a file"))?;
-    create_new(|number| {
-        let mut part = OsString::from(".");
-        part.push(name);
-        part.push(format!(".{}.{number}", process::id()));
-        whole.with_file_name(part)
-    })
+    if whole.file_name().is_none() {
+        return Err(io::Error::new(ErrorKind::InvalidInput, "expected the name of a file"));
+    }
+    create_new(|number| whole.with_file_name(format!(".amx-{}-{number}", process::id())))
 }
 
 /// A new file under the first of some names that no file has.

@@ -4,7 +4,7 @@ use crate::{
     failure::{Failure, Status},
     input::Steps,
     json,
-    output::Output,
+    output::{self, Output},
     summary::Summary,
 };
 use amx::{
@@ -35,7 +35,7 @@ pub fn picture(arguments: &Arguments) -> Result<Status, Failure> {
     let (name, shown) = (steps.name.clone(), shown(&steps.header, from)?);
     let mut output = Output::create(page, steps.identity.as_slice())?;
     let picture = Picture::take(steps, shown)?;
-    output.write_all(picture.page(&name).as_bytes()).map_err(|error| Failure::of_file(page, error))?;
+    output.write_all(picture.page(&name).as_bytes()).map_err(output::failed(page))?;
     output.finish()?.commit()?;
     if let Some(note) = picture.note() {
         // a standard error that takes no more stops nothing

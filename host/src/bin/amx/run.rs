@@ -2,12 +2,12 @@
 use crate::{
     arguments::{Arguments, Options},
     failure::{Failure, Status},
-    input::Steps,
+    input::{Steps, called},
     json, output,
     summary::{Summary, fault_json},
 };
 use amx::{
-    FileFault, LaneType, Register, Run, State, UNIT_NOTE, Width,
+    LaneType, Register, Run, State, UNIT_NOTE, Width,
     text::{Item, print_register},
 };
 use std::io::{self, BufWriter, Write};
@@ -24,40 +24,54 @@ enum Form {
     /// A line for each step and each row that changed, as the trace program has them; the summary goes to standard error.
     Lines,
     Summary,
+    /// Also of what cannot be run.
     Json,
 }
 
+impl Form {
+    fn of(arguments: &Arguments) -> Result<Self, Failure> {
+        match (arguments.is_given("--summary"), arguments.is_given("--json")) {
+            (true, true) => Err(arguments.wrong("--summary and --json are both given")),
+            (true, false) => Ok(Form::Summary),
+            (false, true) => Ok(Form::Json),
+            (false, false) => Ok(Form::Lines),
+        }
+    }
+
+    /// Whether standard output has something to say of a run that ended so.
+    fn tells(self, failure: &Failure) -> bool {
+        match failure {
+            Failure::Refused(..) => true,
+            Failure::File(..) | Failure::Text(..) => self == Form::Json,
+            Failure::Usage(_) | Failure::Output(_) => false,
+        }
+    }
+}
+
 pub fn run(arguments: &Arguments) -> Result<Status, Failure> {
-    let ([file], rows) = (arguments.places()?, Rows::of(arguments)?);
-    let form = match (arguments.is_given("--summary"), arguments.is_given("--json")) {
-        (true, true) => return Err(arguments.wrong("--summary and --json are both given")),
-        (true, false) => Form::Summary,
-        (false, true) => Form::Json,
-        (false, false) => Form::Lines,
-    };
+    let ([file], rows, form) = (arguments.places()?, Rows::of(arguments)?, Form::of(arguments)?);
     let steps = match Steps::open(file) {
-        Err(failure) if !matches!(failure, Failure::Refused(..)) => return Err(failure),
+        Err(failure) if !form.tells(&failure) => return Err(failure),
         steps => steps,
     };
     let mut output = if form == Form::Json { BufWriter::new(io::stdout().lock()) } else { output::lines()? };
     let mut ran = Ran::default();
-    let refused = match steps.and_then(|steps| ran.take(steps, form, &mut output)) {
-        Err(Failure::Refused(name, fault)) => Some((name, fault)),
-        taken => taken.map(|()| None)?,
+    let failure = match steps.and_then(|steps| ran.take(steps, form, &mut output)) {
+        Err(failure) if !form.tells(&failure) => return Err(failure),
+        taken => taken.err(),
     };
-    let fault = refused.as_ref().map(|&(_, fault)| fault);
     match form {
-        Form::Lines => ran.write_rows(fault, rows, &mut output)?,
+        Form::Lines => ran.write_rows(failure.as_ref(), rows, &mut output)?,
         Form::Summary => write!(output, "{}", ran.summary)?,
-        Form::Json => writeln!(output, "{}", ran.json(file, fault, rows))?,
+        Form::Json => writeln!(output, "{}", ran.json(file, failure.as_ref(), rows))?,
     }
     output.flush()?;
     if form == Form::Lines {
         // a standard error that takes no more stops nothing
-        let _ = write!(io::stderr(), "{file}: {}", ran.summary);
+        let _ = write!(io::stderr(), "{}: {}", called(file), ran.summary);
     }
-    match refused {
-        Some((name, fault)) => Err(Failure::Refused(name, fault)),
+    match failure {
+        Some(failure) => Err(failure),
         None if arguments.is_given("--strict") && ran.summary.has_others() => Ok(Status::Strict),
         None => Ok(Status::Ran),
     }
@@ -142,10 +156,11 @@ impl Ran {
     }
 
     /// The lines behind those of the steps: the rows that changed and the number of steps, or the refusal.
-    fn write_rows(&self, fault: Option<FileFault>, rows: Rows, output: &mut impl Write) -> io::Result<()> {
-        let (None, Some(run)) = (fault, &self.run) else {
-            return fault.map_or(Ok(()), |fault| writeln!(output, "{fault}"));
-        };
+    fn write_rows(&self, failure: Option<&Failure>, rows: Rows, output: &mut impl Write) -> io::Result<()> {
+        if let Some(fault) = failure.and_then(Failure::fault) {
+            return writeln!(output, "{fault}");
+        }
+        let Some(run) = &self.run else { return Ok(()) };
         let state = run.state();
         match rows {
             Rows::Hex => run.changed_rows().try_for_each(|row| writeln!(output, "z {row} {}", state.hex_row(Register::Z(row))))?,
@@ -158,17 +173,18 @@ impl Ran {
         writeln!(output, "steps {}", self.records)
     }
 
-    fn json(&self, file: &str, fault: Option<FileFault>, rows: Rows) -> String {
-        let told = match (&self.run, fault) {
+    fn json(&self, file: &str, failure: Option<&Failure>, rows: Rows) -> String {
+        let told = match (&self.run, failure) {
             (Some(run), None) => rows_json(run, rows),
             _ => "\"rows\":[]".to_owned(),
         };
         format!(
-            "{{\"unit\":{},\"file\":{},{},{told},\"file_refused\":{}}}",
+            "{{\"unit\":{},\"file\":{},{},{told},\"file_refused\":{},\"error\":{}}}",
             json::string(UNIT_NOTE.unwrap_or("the proved unit")),
             json::string(file),
             self.summary.json(),
-            fault_json(fault)
+            fault_json(failure.and_then(Failure::fault)),
+            failure.map_or("null".to_owned(), Failure::json)
         )
     }
 }

@@ -13,7 +13,7 @@ use amx::{
 };
 use std::{
     fs,
-    io::{BufWriter, Write},
+    io::{self, BufWriter, Write},
     path::Path,
 };
 
@@ -51,13 +51,13 @@ pub fn cut(arguments: &Arguments) -> Result<Status, Failure> {
 
 fn failure(name: &str) -> impl Fn(WriteError) -> Failure {
     move |error| match error {
-        WriteError::Io(error) => Failure::of_file(name, error),
+        WriteError::Io(error) => output::failed(name)(error),
         error => Failure::Usage(format!("{name}: {error}")),
     }
 }
 
 fn finish(to: &str, output: BufWriter<Output>) -> Result<Finished, Failure> {
-    output.into_inner().map_err(|error| Failure::of_file(to, error.into_error()))?.finish()
+    output.into_inner().map_err(|error| output::failed(to)(error.into_error()))?.finish()
 }
 
 /// Writes the steps of a file into a trace file; where they are to be cut, one that goes on after so many.
@@ -72,7 +72,7 @@ fn write_trace(to: &str, steps: Steps, cut: Option<usize>) -> Result<Status, Fai
         (None, None) => TraceWriter::new(output, start, n),
     };
     let mut writer = writer.map_err(|error| match error {
-        WriteError::Io(error) => Failure::of_file(to, error),
+        WriteError::Io(error) => output::failed(to)(error),
         error => Failure::Usage(format!("{from}: {error}")),
     })?;
     for record in steps.records(false) {
@@ -84,26 +84,14 @@ fn write_trace(to: &str, steps: Steps, cut: Option<usize>) -> Result<Status, Fai
 
 /// Writes a trace for each stretch of steps between loads, all of them or none, and tells their names.
 fn write_stretches(to: &str, steps: Steps) -> Result<Status, Failure> {
-    let several = steps.stretches > 1;
-    if several && (to == "-" || fs::metadata(to).is_ok_and(|there| !there.is_file())) {
-        let message = format!("{to}: {} makes {} traces, one for each stretch between loads: name a file", steps.name, steps.stretches);
-        return Err(Failure::Usage(message));
-    }
-    if steps.stretches > MOST {
-        let message =
-            format!("{}: registers are loaded so often that it makes {} traces, at most {MOST} are written", steps.name, steps.stretches);
-        return Err(Failure::Usage(message));
-    }
-    let (name, inputs) = (Numbered::new(to, steps.stretches), steps.identity.clone().into_iter().collect());
-    // how many steps each of several has is known at its end
-    let announced = if several { Trace::MAX_RECORDS } else { steps.header.records() };
-    let mut stretches = Stretches { name, inputs, announced, writer: None, finished: Vec::new() };
-    let mut run = Run::new(&steps.header);
+    let (mut stretches, mut run) = (Stretches::new(to, &steps)?, Run::new(&steps.header));
+    let (text, records, mut is_loaded) = (steps.name.clone(), steps.header.records(), false);
     for item in steps.shown(false) {
-        match item? {
+        let item = item?;
+        is_loaded = matches!(item, Item::Load(_));
+        match item {
             Item::Step(record) => {
-                stretches.begin(run.state())?;
-                stretches.push(record)?;
+                stretches.push(run.state(), record)?;
                 let _ = run.take(record); // a file has no answers: its run tells them
             }
             Item::Load(load) => {
@@ -112,59 +100,94 @@ fn write_stretches(to: &str, steps: Steps) -> Result<Status, Failure> {
             }
         }
     }
-    if !several {
-        // also where there is no step
-        stretches.begin(run.state())?;
+    stretches.finish(run.state())?.commit()?;
+    if is_loaded && records > 0 {
+        // a standard error that takes no more stops nothing
+        let _ = writeln!(io::stderr(), "{text}: what is loaded after the last step is in no trace");
     }
-    stretches.end()?;
-    if !several {
-        return stretches.finished.into_iter().try_for_each(|(.., finished)| finished.commit()).map(|()| Status::Ran);
-    }
-    let mut lines = output::lines()?;
-    for (name, steps, finished) in stretches.finished {
-        finished.commit()?;
-        writeln!(lines, "{name}: {}", counted(steps, "step"))?;
-    }
-    lines.flush()?;
     Ok(Status::Ran)
 }
 
 /// The traces of a text with loads.
 struct Stretches {
+    text: String,
     name: Numbered,
     inputs: Vec<Identity>,
     announced: usize,
-    /// The one that is being written, with its steps.
-    writer: Option<(TraceOutput, u64)>,
+    /// The one that is being written.
+    stretch: Option<Stretch>,
     finished: Vec<(String, u64, Finished)>,
 }
 
+struct Stretch {
+    to: String,
+    writer: TraceOutput,
+    steps: u64,
+}
+
 impl Stretches {
-    /// Begins a stretch, where none has begun.
-    fn begin(&mut self, start: &State) -> Result<(), Failure> {
-        if self.writer.is_none() && self.finished.len() < self.name.count {
-            let to = self.name.of(self.finished.len());
-            let output = BufWriter::new(Output::create(&to, &self.inputs)?);
-            self.writer = Some((TraceWriter::new(output, start, self.announced).map_err(failure(&to))?, 0));
+    fn new(to: &str, steps: &Steps) -> Result<Self, Failure> {
+        let (text, count) = (steps.name.clone(), steps.stretches);
+        if count > 1 && (to == "-" || fs::metadata(to).is_ok_and(|there| !there.is_file())) {
+            let message = format!("{to}: {text} makes {count} traces, one for each stretch between loads: name a file");
+            return Err(Failure::Usage(message));
         }
-        Ok(())
+        if count > MOST {
+            let message = format!("{text}: registers are loaded so often that it makes {count} traces, at most {MOST} are written");
+            return Err(Failure::Usage(message));
+        }
+        // how many steps each of several has is known at its end
+        let announced = if count > 1 { Trace::MAX_RECORDS } else { steps.header.records() };
+        let inputs = steps.identity.clone().into_iter().collect();
+        Ok(Stretches { text, name: Numbered::new(to, count), inputs, announced, stretch: None, finished: Vec::new() })
     }
 
-    fn push(&mut self, record: Record) -> Result<(), Failure> {
+    /// Begins a stretch.
+    fn begin(&self, start: &State) -> Result<Stretch, Failure> {
+        if self.finished.len() == self.name.count {
+            return Err(Failure::of_file(&self.text, "it changed while it was read"));
+        }
         let to = self.name.of(self.finished.len());
-        let (writer, steps) = self.writer.as_mut().expect("a stretch has begun");
+        let output = BufWriter::new(Output::create(&to, &self.inputs)?);
+        let writer = TraceWriter::new(output, start, self.announced).map_err(failure(&to))?;
+        Ok(Stretch { to, writer, steps: 0 })
+    }
+
+    /// Writes a step, of a new stretch where none has begun.
+    fn push(&mut self, start: &State, record: Record) -> Result<(), Failure> {
+        let stretch = self.stretch.take().map_or_else(|| self.begin(start), Ok)?;
+        let Stretch { to, writer, steps } = self.stretch.insert(stretch);
         *steps += 1;
-        writer.push(record).map_err(failure(&to))
+        writer.push(record).map_err(failure(to))
     }
 
     /// Ends the stretch, where there is one.
     fn end(&mut self) -> Result<(), Failure> {
-        let Some((writer, steps)) = self.writer.take() else { return Ok(()) };
-        let to = self.name.of(self.finished.len());
-        let output = if self.name.count == 1 { writer.finish() } else { writer.finish_here() };
-        let finished = finish(&to, output.map_err(failure(&to))?)?;
-        self.finished.push((to, steps, finished));
+        if let Some(Stretch { to, writer, steps }) = self.stretch.take() {
+            let output = if self.name.count == 1 { writer.finish() } else { writer.finish_here() };
+            let finished = finish(&to, output.map_err(failure(&to))?)?;
+            self.finished.push((to, steps, finished));
+        }
         Ok(())
+    }
+
+    /// Ends the last stretch; where there is no step, there is a trace of none.
+    fn finish(mut self, state: &State) -> Result<Self, Failure> {
+        if self.stretch.is_none() && self.finished.is_empty() {
+            self.stretch = Some(self.begin(state)?);
+        }
+        self.end()?;
+        Ok(self)
+    }
+
+    /// Tells the names of several files, and gives them to these.
+    fn commit(self) -> Result<(), Failure> {
+        if self.name.count > 1 {
+            let mut lines = output::lines()?;
+            self.finished.iter().try_for_each(|(name, steps, _)| writeln!(lines, "{name}: {}", counted(*steps, "step")))?;
+            lines.flush()?;
+        }
+        self.finished.into_iter().try_for_each(|(.., finished)| finished.commit())
     }
 }
 

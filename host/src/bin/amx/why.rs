@@ -27,13 +27,13 @@ pub fn why(arguments: &Arguments) -> Result<Status, Failure> {
     let (header, mut output) = (steps.header.clone(), output::lines()?);
     let mut story = Story::new(Run::new(&header), row, lane, read_as);
     for item in steps.shown(true) {
-        let line = match item? {
+        let lines = match item? {
             Item::Step(record) => story.step(record),
             Item::Load(load) => story.load(&load),
         };
-        line.map_or(Ok(()), |line| writeln!(output, "{line}"))?;
+        output.write_all(lines.as_bytes())?;
     }
-    write!(output, "{}", story.end(header.state()))?;
+    output.write_all(story.end(header.state()).as_bytes())?;
     output.flush()?;
     Ok(Status::Ran)
 }
@@ -45,15 +45,18 @@ struct Story {
     lane: usize,
     /// How it is read: as asked for, or else as the first step reads it that writes a lane of this number.
     read_as: Option<LaneType>,
-    /// The bytes of the lanes that steps write in the row, where they are not the lane's.
-    others: Vec<usize>,
+    is_asked: bool,
+    /// The bytes of the lanes that steps write in the row, each size once.
+    sizes: Vec<usize>,
+    /// The loads of the row before it is known how the lane is read, and the state that they found.
+    loads: Option<(u64, State)>,
     written: u64,
     steps: u64,
 }
 
 impl Story {
     fn new(run: Run, row: usize, lane: usize, read_as: Option<LaneType>) -> Self {
-        Story { run, row, lane, read_as, others: Vec::new(), written: 0, steps: 0 }
+        Story { run, row, lane, read_as, is_asked: read_as.is_some(), sizes: Vec::new(), loads: None, written: 0, steps: 0 }
     }
 
     fn place(&self) -> Option<Lane> {
@@ -61,64 +64,75 @@ impl Story {
     }
 
     /// Takes a step; its line, where it writes the lane.
-    fn step(&mut self, record: Record) -> Option<String> {
+    fn step(&mut self, record: Record) -> String {
         let (call, before) = (Call::from(record), self.run.state().clone());
-        let effects = if self.run.is_consumed() { Vec::new() } else { effects_on(&before, call, self.row, 0..64) };
-        let (place, _) = self.run.take(record)?;
+        let mut effects = if self.run.is_consumed() { Vec::new() } else { effects_on(&before, call, self.row, 0..64) };
+        let Some((place, _)) = self.run.take(record) else { return String::new() };
         self.steps += 1;
-        let effects = self.on_lane(&effects);
+        self.look_at(&effects);
+        let Some(lane) = self.place() else { return String::new() };
+        effects.retain(|effect| lane.shares_bytes_with(effect));
         if effects.is_empty() {
-            return None;
+            return String::new();
         }
         self.written += 1;
-        Some(format!("step {place} {call}: {}", self.words(self.place()?, &effects, &before)))
+        let loads = self.loads.take().map(|(loads, found)| loads_line(lane, loads, &found, &before));
+        format!("{}step {place} {call}: {}\n", loads.unwrap_or_default(), lane.told(&effects, &before, self.run.state()))
     }
 
-    /// The effects that change a byte of the lane. The first step that has a lane of this number tells which bytes these are.
-    fn on_lane(&mut self, effects: &[LaneEffect]) -> Vec<LaneEffect> {
+    /// The first step that has a lane of this number tells how it is read.
+    fn look_at(&mut self, effects: &[LaneEffect]) {
         if let Some(first) = effects.iter().find(|effect| effect.lane == self.lane) {
             self.read_as.get_or_insert(Lane::of(first).read_as);
         }
-        let Some(lane) = self.place() else { return Vec::new() };
-        if let Some(other) = effects.iter().map(|effect| effect.bytes).find(|&bytes| bytes != lane.read_as.bytes())
-            && !self.others.contains(&other)
-        {
-            self.others.push(other);
+        // all lanes of a step have one size
+        if let Some(bytes) = effects.first().map(|effect| effect.bytes).filter(|bytes| !self.sizes.contains(bytes)) {
+            self.sizes.push(bytes);
         }
-        let (bytes, touches) = (lane.bytes(), |effect: &LaneEffect| effect.bytes * effect.lane..effect.bytes * (effect.lane + 1));
-        effects.iter().filter(|effect| touches(effect).start < bytes.end && bytes.start < touches(effect).end).copied().collect()
     }
 
-    /// One effect on the lane, or those on lanes of another width that share bytes with it.
-    fn words(&self, lane: Lane, effects: &[LaneEffect], before: &State) -> String {
-        let after = self.run.state();
-        if let [effect] = effects
-            && effect.bytes == lane.read_as.bytes()
-        {
-            return lane.reread(*effect, before, after).to_string();
-        }
-        let each = effects.iter().map(|effect| format!("lane {} of {} bits: {effect}", effect.lane, 8 * effect.bytes));
-        format!("{}; so {} becomes {}", each.collect::<Vec<_>>().join("; "), lane.number(before), lane.number(after))
-    }
-
-    /// Loads a register; its line, where it is the lane's row.
-    fn load(&mut self, load: &Load) -> Option<String> {
-        let before = self.run.state().clone();
+    /// Loads a register; the line, where it is the lane's row and it is known how the lane is read.
+    fn load(&mut self, load: &Load) -> String {
+        let before = (load.register == Register::Z(self.row)).then(|| self.run.state().clone());
         self.run.load(load);
-        let lane = self.place().filter(|_| load.register == Register::Z(self.row))?;
-        Some(format!("load z {}: {} becomes {}", self.row, lane.number(&before), lane.number(self.run.state())))
+        match (before, self.place()) {
+            (Some(before), Some(lane)) => loads_line(lane, 1, &before, self.run.state()),
+            (Some(before), None) => {
+                self.loads.get_or_insert((0, before)).0 += 1;
+                String::new()
+            }
+            (None, _) => String::new(),
+        }
     }
 
     /// What the lane was and is, and which lanes of the row were not looked at.
     fn end(&self, start: &State) -> String {
-        let Some(lane) = self.place() else {
-            return format!("z {} lane {}: no step of {} wrote it\n", self.row, self.lane, self.steps);
-        };
-        let (was, is) = (lane.number(start), lane.number(self.run.state()));
-        let mut text = format!("{lane} was {was} and is {is}: {} of {} wrote it\n", self.written, counted(self.steps, "step"));
-        for bytes in &self.others {
-            text += &format!("steps write lanes of {} bits in row {} too: --as tells which lanes are meant\n", 8 * bytes, self.row);
+        let (row, lane) = (self.row, self.lane);
+        let mut text = String::new();
+        if self.read_as.is_none() && self.loads.is_none() {
+            text += &format!("z {row} lane {lane}: no step of {} wrote it\n", self.steps);
+        } else {
+            // what is loaded alone has no reading of its own
+            let of_loads = if lane < LaneType::I16.lanes() { LaneType::I16 } else { LaneType::I8 };
+            let lane = Lane { row, lane, read_as: self.read_as.unwrap_or(of_loads) };
+            if let Some((loads, found)) = &self.loads {
+                text += &loads_line(lane, *loads, found, self.run.state());
+            }
+            let (was, is) = (lane.number(start), lane.number(self.run.state()));
+            text += &format!("{lane} was {was} and is {is}: {} of {} wrote it\n", self.written, counted(self.steps, "step"));
+        }
+        if !self.is_asked {
+            self.sizes.iter().filter(|&&size| self.read_as.is_none_or(|read_as| read_as.bytes() != size)).for_each(|size| {
+                text +=
+                    &format!("steps write lanes of {} bits in row {row}, 0 to {}: --as tells which are meant\n", 8 * size, 64 / size - 1);
+            });
         }
         text
     }
+}
+
+/// The line of loads, from the state that they found to the one that they left.
+fn loads_line(lane: Lane, loads: u64, found: &State, left: &State) -> String {
+    let times = if loads == 1 { String::new() } else { format!(" {loads} times") };
+    format!("load z {}{times}: {} becomes {}\n", lane.row, lane.number(found), lane.number(left))
 }
