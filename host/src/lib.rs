@@ -5,8 +5,9 @@
 //! - [`Answer`] tells a step that was done from a no-op and a refusal, with the reason; [`NotDone`] is what is not done, as an error.
 //! - [`Mac16`], [`Vecint`], [`Reduction`], [`Vecfp`] and [`Fms64`] build operands by field, of enums that have no reserved values;
 //!   [`Call::new`] and [`with_field`] take any number. [`explain`] goes back, with the ignored bits; [`normal`] clears those.
-//! - [`Trace`] holds a trace file, a whole one or one that goes on from a [`Checkpoint`]; [`TraceReader`], [`TraceWriter`] and [`write_run`]
-//!   read, write and run one step by step, of up to 1,000,000; [`text`] does so with their texts, whose numbers are of a [`LaneType`].
+//! - [`Trace`] holds a trace file, a whole one or one that goes on from a [`Checkpoint`]; [`TraceReader`], [`TraceWriter`], [`Run`] and
+//!   [`write_run`] read, write and run one step by step, of up to 1,000,000; a file that is none is told by a [`FileFault`]. [`text`] does so
+//!   with their texts, whose numbers are of a [`LaneType`].
 //! - [`effects`] tells what a step does to each lane, in numbers.
 //! - [`mod@reference`] is a second program for the same pages, whose floats are whole numbers ([`rounding`]). Nothing here relies on it but
 //!   [`effects`], [`explain`] and [`lane_grid`], and builds without the proved unit; the `compare` program runs both.

@@ -5,6 +5,7 @@ use crate::{
     trace::{
         CHECKPOINT_LENGTH, RECORD, bytes_of_checkpoint, bytes_of_record, checkpoint_from, record_at, record_from, table_length, table_of,
     },
+    words::counted,
 };
 use std::{
     fmt,
@@ -427,7 +428,9 @@ impl fmt::Display for WriteError {
         match self {
             WriteError::Full(full) => full.fmt(f),
             WriteError::Checkpoint(error) => error.fmt(f),
-            WriteError::Announced(records) => write!(f, "a trace of {records} steps was announced, and there are more or fewer"),
+            WriteError::Announced(records) => {
+                write!(f, "a trace of {} was announced, and there are more or fewer", counted(*records as u64, "step"))
+            }
             WriteError::Io(error) => error.fmt(f),
         }
     }

@@ -1,5 +1,7 @@
 use crate::{
-    Answer, Call, FileFault, REGISTER_BYTES, ReadError, STATE_LENGTH, State, TraceReader, TraceWriter, checkpoint_bytes, run, write_run,
+    Answer, Call, FileFault, REGISTER_BYTES, ReadError, STATE_LENGTH, State, TraceReader, TraceWriter, checkpoint_bytes, run,
+    words::{counted, grouped},
+    write_run,
 };
 use std::{
     fmt,
@@ -360,14 +362,16 @@ impl TryFrom<Call> for Record {
 
 impl fmt::Display for TraceFull {
     fn fmt(&self, f: &mut fmt::Formatter) -> fmt::Result {
-        write!(f, "a trace holds at most {} steps", Trace::MAX_RECORDS)
+        write!(f, "a trace holds at most {}", counted(Trace::MAX_RECORDS as u64, "step"))
     }
 }
 
 impl fmt::Display for NoCheckpoint {
     fn fmt(&self, f: &mut fmt::Formatter) -> fmt::Result {
         match self {
-            NoCheckpoint::TooFewRecords { consumed, records } => write!(f, "{consumed} steps cannot be consumed, the trace has {records}"),
+            NoCheckpoint::TooFewRecords { consumed, records } => {
+                write!(f, "{} cannot be consumed, the trace has {}", counted(*consumed as u64, "step"), grouped(*records as u64))
+            }
             NoCheckpoint::Resumed => f.write_str("the trace has a checkpoint already"),
         }
     }

@@ -101,7 +101,7 @@ fn a_cut_that_cannot_be_made_writes_no_file() {
     let cut =
         |status, file: &Path, after: &str, words: &str| fails(status, &["cut", name(file), "--after", after, "-o", name(&rest)], words);
     cut(USAGE, &trace, "3", "sample.amx: 3 steps cannot be consumed, the trace has 2");
-    cut(USAGE, &text, "18446744073709551615", "18446744073709551615 steps cannot be consumed, the trace has 2");
+    cut(USAGE, &text, "18446744073709551615", "18,446,744,073,709,551,615 steps cannot be consumed, the trace has 2");
     for after in ["", "one", "-1", "1.5", "18446744073709551616"] {
         cut(USAGE, &trace, after, &format!("--after: expected a number of 64 bits (12, 0x1f or 0b101), not {after:?}"));
     }
@@ -213,7 +213,7 @@ fn a_million_steps_are_assembled_run_cut_and_taken_apart() {
     assert_eq!(said(&["run", name(&rest)]), "step 999999 done 64\nsteps 1000000\n");
     // one more
     fs::write(&text_file, text + "mac16 m1\n").unwrap();
-    fails(TEXT, &["asm", name(&text_file), "-o", name(&rest)], "text, line 1000002: a trace holds at most 1000000 steps");
+    fails(TEXT, &["asm", name(&text_file), "-o", name(&rest)], "text, line 1000002: a trace holds at most 1,000,000 steps");
     assert_eq!(room.names(), ["rest", "text", "trace"]);
 }
 
@@ -353,8 +353,8 @@ fn repeated_steps_are_assembled_run_and_taken_apart() {
     for (text, message) in [
         ("\nrepeat r in 0..64 { mac16 m1 z_row=2*r }", "line 2, r = 32: z_row (bits 20..25) is 0 to 63, not 64\n"),
         ("repeat r in 0..64 {\nmac16 m1\n", "line 1: the block of r is not closed: expected }\n"),
-        ("repeat r in 0..1000001 { mac16 m1 }", "line 1: a trace holds at most 1000000 steps, and this block makes 1000001 after 0\n"),
-        (&format!("mac16 m1 # {}\n", "-".repeat(70_000)), "line 1: a line has at most 65536 bytes\n"),
+        ("repeat r in 0..1000001 { mac16 m1 }", "line 1: a trace holds at most 1,000,000 steps, and this block makes 1,000,001 after 0\n"),
+        (&format!("mac16 m1 # {}\n", "-".repeat(70_000)), "line 1: a line has at most 65,536 bytes\n"),
     ] {
         let wrong = room.write("wrong.txt", text);
         fails(TEXT, &["asm", name(&wrong), "-o", name(&room.0.join("none"))], &format!("wrong.txt, {message}"));

@@ -295,7 +295,7 @@ fn endless(arguments: &[&str], bytes: &[u8]) -> Output {
 #[test]
 fn an_input_that_does_not_end_is_not_read_for_ever() {
     let cases = [
-        (&b"#"[..], TEXT, "line 1: a line has at most 65536 bytes"),
+        (&b"#"[..], TEXT, "line 1: a line has at most 65,536 bytes"),
         (b"\0", REFUSED, "file refused 6: its table tells of 0 sections"),
         (b"\x03\0\0\0", REFUSED, "file refused 6: the kind of section 1 is 3"),
     ];

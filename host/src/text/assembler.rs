@@ -5,7 +5,10 @@ use super::{
     state::RegisterLine,
     step::{Step, StepError, instructions},
 };
-use crate::{Checkpoint, REGISTER_BYTES, Record, Register, STATE_LENGTH, State, TraceHeader};
+use crate::{
+    Checkpoint, REGISTER_BYTES, Record, Register, STATE_LENGTH, State, TraceHeader,
+    words::{counted, grouped},
+};
 
 /// The byte order mark, which some editors put before a text: it is no part of it.
 const MARK: char = '\u{feff}';
@@ -142,12 +145,12 @@ impl Assembler {
             return Err(NOT_TAKEN.to_owned());
         }
         if line.len() > MAX_LINE {
-            return Err(format!("a line has at most {MAX_LINE} bytes"));
+            return Err(format!("a line has at most {}", counted(MAX_LINE as u64, "byte")));
         }
         let line = line.split('#').next().unwrap_or_default();
         self.block = if self.program.is_open() { self.block + line.len() } else { 0 };
         if self.block > MAX_BLOCK {
-            return Err(format!("a repeat block has at most {MAX_BLOCK} bytes of text"));
+            return Err(format!("a repeat block has at most {} of text", counted(MAX_BLOCK as u64, "byte")));
         }
         line.split_inclusive(['{', '}', ';']).try_for_each(|piece| self.piece(piece))
     }
@@ -218,7 +221,7 @@ impl Assembler {
         let before = self.header.records;
         self.header.count_records(steps).map_err(|full| match steps {
             1 => full.to_string(),
-            _ => format!("{full}, and this block makes {steps} after {before}"),
+            _ => format!("{full}, and this block makes {} after {}", grouped(steps), grouped(before as u64)),
         })
     }
 

@@ -1,12 +1,12 @@
 //! Texts of steps, for people: `assemble` makes a trace of a text, `disassemble` goes back, and the way there and back is exact.
 //! [`Assembler`] and [`write_text`] do so line by line. A [`Call`] alone is read by `parse` and written by `to_string`.
 //!
-//! One line each; what follows a `#` is a comment.
+//! One line each; what follows a `#` is a comment. A byte order mark before the first line is passed over.
 //!
 //! ```text
 //! x i16: 3 -3                                     # the starting state: lanes of X from 0 on; i8, i16, i32, u8, u16, u32, f32 or f64
 //! y 1 u8: 255 0x10 0b101                          # lanes of register 1 of Y, from its first
-//! z 3 hex: ff7f 00 01                             # bytes of row 3 of Z, in hex; all others are 0
+//! z 3 hex: ff7f 00 01                             # bytes of row 3 of Z, two hex digits each; all others are 0
 //! x 1 f32: 1.5 -0 2e-40 inf -inf nan 0x7f800001   # float lanes: numbers, the default NaN, or patterns
 //! mac16 m1 vector x=0 y=64 z_row=3 shift=2        # steps: instruction, generation, fields by name; fields not named are 0
 //! vecint m2 several four widths=3 broadcast_mode=2
@@ -429,7 +429,7 @@ z 63 f64: 0.30000000000000004
     #[test]
     fn lengths_are_bounded() {
         let long = error("repeat r in 0..999999 { raw 0 0 0 }\nmac16 m1\nmac16 m1\n");
-        assert_eq!(long.to_string(), "line 3: a trace holds at most 1000000 steps");
+        assert_eq!(long.to_string(), "line 3: a trace holds at most 1,000,000 steps");
         assert_eq!(error(&format!("z 1 hex: {}", "00".repeat(65))).expected, "z 1 hex has 64 bytes, not 65");
         for (place, lanes) in
             [("x f32", 128), ("y f64", 64), ("x 7 f32", 16), ("z 63 f64", 8), ("x i8", 512), ("y 0 u16", 32), ("load z 1 i32", 16)]
@@ -440,7 +440,7 @@ z 63 f64: 0.30000000000000004
         }
         let line = format!("mac16 m1 #{}", "x".repeat(MAX_LINE - 10));
         assert_eq!((line.len(), assemble(&format!("{line}\r\n")).unwrap().records().len()), (MAX_LINE, 1));
-        assert_eq!(error(&format!("\n{line}x\n")).to_string(), "line 2: a line has at most 65536 bytes");
+        assert_eq!(error(&format!("\n{line}x\n")).to_string(), "line 2: a line has at most 65,536 bytes");
     }
 
     /// The answers of a text's items, taken one by one, and the state after the last step.

@@ -387,7 +387,7 @@ mod tests {
         let held = MAX_BLOCK / line.find('#').unwrap();
         assert_eq!(assemble(&format!("repeat r in 0..1 {{\n{}}}", line.repeat(held))).unwrap().records().len(), held);
         let long = error(&format!("repeat r in 0..1 {{\n{}}}", line.repeat(held + 1)));
-        assert_eq!(long, format!("line {}: a repeat block has at most 262144 bytes of text", held + 2));
+        assert_eq!(long, format!("line {}: a repeat block has at most 262,144 bytes of text", held + 2));
     }
 
     #[test]
@@ -413,11 +413,11 @@ mod tests {
         let mut assembler = Assembler::new();
         assembler.line("repeat q in 0..15625 { repeat r in 0..64 { mac16 m1 vector z_row=r } }").unwrap();
         assert_eq!(assembler.header().records(), Trace::MAX_RECORDS);
-        for rounds in ["1000000", "18446744073709551615"] {
-            let message = format!("line 2: a trace holds at most 1000000 steps, and this block makes {rounds} after 1");
+        for (rounds, told) in [("1000000", "1,000,000"), ("18446744073709551615", "18,446,744,073,709,551,615")] {
+            let message = format!("line 2: a trace holds at most 1,000,000 steps, and this block makes {told} after 1");
             assert_eq!(error(&format!("mac16 m1\nrepeat r in 0..{rounds} {{ mac16 m1 z_row=r }}")), message);
         }
         let nested = "repeat q in 0..18446744073709551615 { repeat r in 0..18446744073709551615 { mac16 m1; mac16 m1 } }";
-        assert!(error(nested).starts_with("line 1: a trace holds at most 1000000 steps, and this block makes "));
+        assert!(error(nested).starts_with("line 1: a trace holds at most 1,000,000 steps, and this block makes "));
     }
 }

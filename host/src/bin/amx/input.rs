@@ -7,6 +7,7 @@ use crate::{
 use amx::{
     FileFault, ReadError, Record, TraceHeader, TraceReader,
     text::{Assembler, Item, MAX_LINE, TextError},
+    words::counted,
 };
 use std::{
     env,
@@ -216,7 +217,7 @@ impl Lines {
         let wrong = |expected: String| TextError { line: self.lines, rounds: Vec::new(), expected };
         let taken = match str::from_utf8(&self.line) {
             _ if read == 0 => return Ok(false),
-            _ if !fits => Err(wrong(format!("a text has at most {MAX_TEXT} bytes"))),
+            _ if !fits => Err(wrong(format!("a text has at most {}", counted(MAX_TEXT, "byte")))),
             Ok(line) => self.assembler.line(line),
             Err(_) if read > MAX_LINE + 1 => self.assembler.line(&String::from_utf8_lossy(&self.line)),
             Err(_) => Err(wrong("expected a text in UTF-8".to_owned())),
@@ -262,7 +263,7 @@ mod tests {
             let end = lines.next();
             assert_eq!(end.is_none(), fits);
             let told = end.and_then(Result::err).map(|failure| failure.to_string());
-            assert!(fits || told == Some("text, line 101: a text has at most 268435456 bytes".to_owned()), "{told:?}");
+            assert!(fits || told == Some("text, line 101: a text has at most 268,435,456 bytes".to_owned()), "{told:?}");
         }
     }
 }
