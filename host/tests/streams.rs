@@ -62,6 +62,12 @@ fn a_pipe_is_read_once_by_any_name() {
     assert_eq!((output.status.code(), text_of(&output.stdout)), (Some(0), lines().as_str()));
     let rest = shell("\"$1\" cut - --after 1 -o - < \"$2\" | \"$1\" run - | grep -m 1 step", &[name(&text)]);
     assert_eq!(text_of(&rest.stdout), "step 1 no-op 1\n");
+    // what is read twice is kept meanwhile, where that can be
+    let output = shell("cat \"$2\" | TMPDIR=/none \"$1\" run -", &[name(&text)]);
+    assert_eq!(output.status.code(), Some(FILE));
+    assert!(
+        text_of(&output.stderr).ends_with("standard input: to be read twice it is kept in /none: No such file or directory (os error 2)\n")
+    );
     // standard input is read from where it stands
     let behind = shell("{ read line; \"$1\" run -; } < \"$2\"", &[name(&text)]);
     assert!(text_of(&behind.stdout).starts_with("step 0 done 64\nstep 1 no-op 1\nstep 2 refused 3\nsteps 3\n"), "{behind:?}");

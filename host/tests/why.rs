@@ -52,7 +52,7 @@ fn what_was_wrapped_or_clamped_is_told() {
     // a float is rounded: 2^24 + 1 is not there
     assert_eq!(first("2", "f32"), "step 2 vecfp m2 mode=11 widths=4 z_row=2 x=64: x 1, z 16777216 gives 16777216");
     let all = said(&["why", name(&text), "z", "0", "0"]);
-    assert!(all.contains("step 3 vecint m2 enable_value=3: it becomes 0\n"), "{all}");
+    assert!(all.contains("step 3 vecint m2 enable_value=3: it becomes 0 (z was -32768)\n"), "{all}");
 }
 
 #[test]

@@ -1,6 +1,6 @@
 //! The words behind a command: what stands by place, and options.
 use crate::failure::Failure;
-use amx::words::counted;
+use amx::{LaneType, text::parse_number, words::counted};
 
 /// The options that a command has: those that stand alone, and those that a value follows.
 pub struct Options {
@@ -72,7 +72,29 @@ impl Arguments {
 
     /// The value of an option that a command cannot do without.
     pub fn needed(&self, option: &str) -> Result<&str, Failure> {
-        self.value(option).ok_or_else(|| self.wrong(&format!("{option} is missing")))
+        self.value(option).ok_or_else(|| self.missing(option))
+    }
+
+    pub fn missing(&self, option: &str) -> Failure {
+        self.wrong(&format!("{option} is missing"))
+    }
+
+    /// The number behind an option, where it is given.
+    pub fn number(&self, option: &str) -> Result<Option<u64>, Failure> {
+        let number = self.value(option).map(|word| parse_number(word).map_err(|error| self.wrong(&format!("{option}: {error}"))));
+        number.transpose()
+    }
+
+    /// A word by place that is a number below another.
+    pub fn below(&self, name: &str, word: &str, end: usize) -> Result<usize, Failure> {
+        let number = parse_number(word).ok().and_then(|number| usize::try_from(number).ok()).filter(|&number| number < end);
+        number.ok_or_else(|| self.wrong(&format!("{name} is 0 to {}, not {word:?}", end - 1)))
+    }
+
+    /// How lanes are read: the value of `--as`, where it is given.
+    pub fn lane_type(&self) -> Result<Option<LaneType>, Failure> {
+        let lane_type = self.value("--as").map(|word| word.parse().map_err(|error| self.wrong(&format!("--as: {error}"))));
+        lane_type.transpose()
     }
 
     /// An error of use: what was expected, and what is wrong.

@@ -5,7 +5,6 @@ use crate::{
     input::Steps,
     lane::Lane,
     output,
-    run::lane_type,
 };
 use amx::{
     Answer, Call, LaneType, Record, Register, Run, State, effects_on,
@@ -17,7 +16,7 @@ use std::{cmp::Ordering, io::Write, mem};
 pub const OPTIONS: Options = Options { usage: "diff A B [--as TYPE]", alone: &[], valued: &["--as"] };
 
 pub fn diff(arguments: &Arguments) -> Result<Status, Failure> {
-    let ([a, b], read_as) = (arguments.places()?, lane_type(arguments)?);
+    let ([a, b], read_as) = (arguments.places()?, arguments.lane_type()?);
     if a == "-" && b == "-" {
         return Err(arguments.wrong("standard input is read once, and cannot be both"));
     }

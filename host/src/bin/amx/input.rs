@@ -5,7 +5,7 @@ use crate::{
     progress::Progress,
 };
 use amx::{
-    FileFault, ReadError, Record, TraceHeader, TraceReader,
+    CHECKPOINT_LENGTH, FileFault, REGISTER_BYTES, ReadError, Record, Trace, TraceHeader, TraceReader,
     text::{Assembler, Item, MAX_LINE, TextError},
     words::counted,
 };
@@ -23,8 +23,11 @@ const TABLE: usize = 28;
 /// The most bytes of a text: an input that does not end is not read for ever.
 const MAX_TEXT: u64 = 1 << 28;
 
+/// The most loads of a text: blocks that load for hours are not run.
+const MAX_LOADS: u64 = 16_000_000;
+
 /// The bytes of the longest trace of three sections.
-const MAX_TRACE: u64 = 16_010_292;
+const MAX_TRACE: u64 = (40 + REGISTER_BYTES + 16 * Trace::MAX_RECORDS + CHECKPOINT_LENGTH) as u64;
 
 /// A file, or standard input as `-`, that is read from its first byte.
 pub struct Input {
@@ -109,7 +112,7 @@ impl Input {
             From::Once(from) => {
                 let mut from = Cursor::new(self.first.clone()).chain(from);
                 if self.first.starts_with(&[3, 0, 0, 0]) {
-                    let file = keep(&mut from, MAX_TRACE).map_err(|error| Failure::of_file(&name, error))?;
+                    let file = keep(&mut from, MAX_TRACE).map_err(not_kept(&name))?;
                     return Steps::of_trace(name, identity, TraceReader::seekable(file));
                 }
                 Steps::of_trace(name, identity, TraceReader::new(from))
@@ -125,7 +128,7 @@ impl Input {
         }
         let file = match self.from {
             From::File(file) => file,
-            From::Once(from) => keep(&mut Cursor::new(self.first).chain(from), MAX_TEXT).map_err(failed)?,
+            From::Once(from) => keep(&mut Cursor::new(self.first).chain(from), MAX_TEXT).map_err(not_kept(&name))?,
         };
         let mut lines = Lines::new(name.clone(), file.try_clone().map_err(failed)?);
         let items = Progress::new(&mut lines, " steps read".to_owned(), io::stderr(), io::stderr().is_terminal());
@@ -190,6 +193,10 @@ fn keep(input: &mut impl Read, most: u64) -> io::Result<File> {
     Ok(file)
 }
 
+fn not_kept(name: &str) -> impl Fn(io::Error) -> Failure {
+    move |error| Failure::of_file(name, format!("to be read twice it is kept in {}: {error}", env::temp_dir().display()))
+}
+
 /// The steps of a text, line by line.
 struct Lines {
     name: String,
@@ -197,13 +204,15 @@ struct Lines {
     line: Vec<u8>,
     assembler: Assembler,
     lines: usize,
-    /// The bytes that may still come.
+    /// The bytes that may still come, and the loads.
     left: u64,
+    loads_left: u64,
 }
 
 impl Lines {
     fn new(name: String, file: File) -> Self {
-        Lines { name, file: BufReader::new(file), line: Vec::new(), assembler: Assembler::new(), lines: 0, left: MAX_TEXT }
+        let (line, assembler) = (Vec::new(), Assembler::new());
+        Lines { name, file: BufReader::new(file), line, assembler, lines: 0, left: MAX_TEXT, loads_left: MAX_LOADS }
     }
 
     /// Takes the next line; false at the end.
@@ -214,7 +223,7 @@ impl Lines {
         let read = read.map_err(|error| Failure::of_file(&self.name, error))?;
         let fits = read as u64 <= self.left;
         (self.lines, self.left) = (self.lines + 1, self.left.saturating_sub(read as u64));
-        let wrong = |expected: String| TextError { line: self.lines, rounds: Vec::new(), expected };
+        let wrong = |expected| self.wrong(expected);
         let taken = match str::from_utf8(&self.line) {
             _ if read == 0 => return Ok(false),
             _ if !fits => Err(wrong(format!("a text has at most {}", counted(MAX_TEXT, "byte")))),
@@ -229,10 +238,19 @@ impl Lines {
     fn item(&mut self) -> Result<Option<Item>, Failure> {
         loop {
             let item = self.assembler.next_item().map_err(|error| self.failure(error))?;
+            if matches!(item, Some(Item::Load(_))) {
+                let too_many = || self.failure(self.wrong(format!("a text loads at most {}", counted(MAX_LOADS, "register"))));
+                self.loads_left = self.loads_left.checked_sub(1).ok_or_else(too_many)?;
+            }
             if item.is_some() || !self.read_line()? {
                 return Ok(item);
             }
         }
+    }
+
+    /// What is wrong with the line that was read last.
+    fn wrong(&self, expected: String) -> TextError {
+        TextError { line: self.lines, rounds: Vec::new(), expected }
     }
 
     fn failure(&self, error: TextError) -> Failure {
@@ -265,5 +283,18 @@ mod tests {
             let told = end.and_then(Result::err).map(|failure| failure.to_string());
             assert!(fits || told == Some("text, line 101: a text has at most 268,435,456 bytes".to_owned()), "{told:?}");
         }
+    }
+
+    #[test]
+    fn a_text_that_loads_without_end_is_not_run() {
+        let text = "repeat r in 0..4 {\nload x 0 u8: r\nmac16 m1\n}\n";
+        for (loads_left, items) in [(4, 8), (3, 6)] {
+            let file = keep(&mut Cursor::new(text), 2_000).unwrap();
+            let mut lines = Lines { loads_left, ..Lines::new("text".to_owned(), file) };
+            assert_eq!(lines.by_ref().take_while(Result::is_ok).count(), items);
+        }
+        let file = keep(&mut Cursor::new(text), 2_000).unwrap();
+        let told = Lines { loads_left: 0, ..Lines::new("text".to_owned(), file) }.next().and_then(Result::err);
+        assert_eq!(told.map(|failure| failure.to_string()), Some("text, line 4: a text loads at most 16,000,000 registers".to_owned()));
     }
 }

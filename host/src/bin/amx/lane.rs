@@ -1,6 +1,5 @@
 //! A lane of Z, as `why` and `diff` speak of it.
-use crate::{arguments::Arguments, failure::Failure};
-use amx::{Kept, LaneEffect, LaneType, Register, State, Value, text::parse_number};
+use amx::{Kept, LaneEffect, LaneType, Register, State, Value};
 use std::{fmt, ops::Range};
 
 /// A lane, and how it is read.
@@ -56,6 +55,7 @@ impl Lane {
         match effects {
             [] => "and does not write it".to_owned(),
             [effect] if effect.bytes == self.read_as.bytes() => match self.reread(*effect, before, after) {
+                Some(effect) if effect.old.is_none() => format!("{effect} (z was {})", self.number(before)),
                 Some(effect) => effect.to_string(),
                 None => format!("{effect}; {}", becomes()),
             },
@@ -96,12 +96,6 @@ impl fmt::Display for Lane {
     }
 }
 
-/// A number of the command's words that is below another.
-pub fn below(arguments: &Arguments, name: &str, word: &str, end: usize) -> Result<usize, Failure> {
-    let number = parse_number(word).ok().and_then(|number| usize::try_from(number).ok()).filter(|&number| number < end);
-    number.ok_or_else(|| arguments.wrong(&format!("{name} is 0 to {}, not {word:?}", end - 1)))
-}
-
 #[cfg(test)]
 mod tests {
     use super::*;
@@ -127,10 +121,10 @@ mod tests {
         assert_eq!(sum(32_767, LaneType::U16), "x 1, y 1, z 32767 gives 32768");
         assert_eq!(sum(-1, LaneType::I16), "x 1, y 1, z -1 gives 0");
         assert_eq!(sum(-1, LaneType::U16), "x 1, y 1, z 65535 gives 65536, wrapped to 0");
-        // what is not added to is told as it is
+        // what is not added to is told beside it
         let product = |read_as| read("vecint m2 mode=10 x_signed y_signed", -3, 2, 9, Width::Bits16, read_as);
-        assert_eq!(product(LaneType::I16), "x -3, y 2 gives -6");
-        assert_eq!(product(LaneType::U16), "x -3, y 2 gives -6, wrapped to 65530");
+        assert_eq!(product(LaneType::I16), "x -3, y 2 gives -6 (z was 9)");
+        assert_eq!(product(LaneType::U16), "x -3, y 2 gives -6, wrapped to 65530 (z was 9)");
         // another width
         assert_eq!(sum(5, LaneType::I8), "lane 0 of 16 bits: x 1, y 1, z 5 gives 6; so 5 becomes 6");
         assert_eq!(read("vecint m2 mode=4 enable_mode=6", 0, 0, 5, Width::Bits16, LaneType::I16), "and does not write it");

@@ -9,7 +9,7 @@ use crate::{
 };
 use amx::{
     Answer, Call, Record, Register, Run, State, TraceHeader, UNIT_NOTE, reference,
-    text::{self, Item, Load},
+    text::{Item, Load},
     words::{counted, grouped},
 };
 use std::{
@@ -29,8 +29,7 @@ const MOST: usize = 2_048;
 
 pub fn picture(arguments: &Arguments) -> Result<Status, Failure> {
     let ([file], page) = (arguments.places()?, arguments.needed("-o")?);
-    let from = arguments.value("--from").map_or(Ok(0), text::parse_number);
-    let from = from.map_err(|error| arguments.wrong(&format!("--from: {error}")))?;
+    let from = arguments.number("--from")?.unwrap_or(0);
     let steps = Steps::open(file)?;
     let (name, shown) = (steps.name.clone(), shown(&steps.header, from)?);
     let mut output = Output::create(page, steps.identity.as_slice())?;
@@ -190,12 +189,7 @@ fn step_json(place: usize, call: Call, answer: Answer) -> String {
 
 /// The fields of loads.
 fn load_json(registers: &[Register]) -> String {
-    let name = |register: &Register| match register {
-        Register::X(n) => format!("x {n}"),
-        Register::Y(n) => format!("y {n}"),
-        Register::Z(n) => format!("z {n}"),
-    };
-    let names: Vec<String> = registers.iter().map(name).collect();
+    let names: Vec<String> = registers.iter().map(Register::to_string).collect();
     let words = format!("{} loaded", counted(registers.len() as u64, "register"));
     format!("\"kind\":\"load\",\"text\":\"load {}\",\"words\":\"{words}\"", names.join(", "))
 }

@@ -89,19 +89,13 @@ enum Rows {
 
 impl Rows {
     fn of(arguments: &Arguments) -> Result<Self, Failure> {
-        match (lane_type(arguments)?, arguments.is_given("--matrix")) {
+        match (arguments.lane_type()?, arguments.is_given("--matrix")) {
             (Some(_), true) => Err(arguments.wrong("--as and --matrix are both given; a matrix is i32")),
             (None, true) => Ok(Rows::Matrix),
             (Some(lane_type), false) => Ok(Rows::Lanes(lane_type)),
             (None, false) => Ok(Rows::Hex),
         }
     }
-}
-
-/// The value of `--as`, where it is given.
-pub fn lane_type(arguments: &Arguments) -> Result<Option<LaneType>, Failure> {
-    let parsed = arguments.value("--as").map(|word| word.parse().map_err(|error| arguments.wrong(&format!("--as: {error}"))));
-    parsed.transpose()
 }
 
 /// The product that a matrix step with 32-bit lanes adds to: that of lane i of X and lane j of Y is in row 2j + i mod 2, lane i div 2.

@@ -4,7 +4,6 @@ use crate::{
     failure::{Failure, Status},
     input::{Input, Steps},
     output::{self, Finished, Identity, Output},
-    run::lane_type,
 };
 use amx::{
     NoCheckpoint, Record, Run, State, Trace, TraceWriter, WriteError,
@@ -33,7 +32,7 @@ pub fn assemble(arguments: &Arguments) -> Result<Status, Failure> {
 }
 
 pub fn disassemble(arguments: &Arguments) -> Result<Status, Failure> {
-    let ([trace], form) = (arguments.places()?, lane_type(arguments)?);
+    let ([trace], form) = (arguments.places()?, arguments.lane_type()?);
     let steps = Input::open(trace)?.trace()?;
     let mut output = output::lines()?;
     let header = steps.header.clone();
@@ -43,10 +42,9 @@ pub fn disassemble(arguments: &Arguments) -> Result<Status, Failure> {
 }
 
 pub fn cut(arguments: &Arguments) -> Result<Status, Failure> {
-    let ([file], after, rest) = (arguments.places()?, arguments.needed("--after")?, arguments.needed("-o")?);
-    let consumed = text::parse_number(after).map_err(|error| arguments.wrong(&format!("--after: {error}")))?;
-    let consumed = usize::try_from(consumed).unwrap_or(usize::MAX);
-    write_trace(rest, Steps::open(file)?, Some(consumed))
+    let ([file], after, rest) = (arguments.places()?, arguments.number("--after")?, arguments.needed("-o")?);
+    let after = after.ok_or_else(|| arguments.missing("--after"))?;
+    write_trace(rest, Steps::open(file)?, Some(usize::try_from(after).unwrap_or(usize::MAX)))
 }
 
 fn failure(name: &str) -> impl Fn(WriteError) -> Failure {

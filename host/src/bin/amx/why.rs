@@ -3,9 +3,8 @@ use crate::{
     arguments::{Arguments, Options},
     failure::{Failure, Status},
     input::Steps,
-    lane::{Lane, below},
+    lane::Lane,
     output,
-    run::lane_type,
 };
 use amx::{
     Call, LaneEffect, LaneType, Record, Register, Run, State, effects_on,
@@ -21,8 +20,8 @@ pub fn why(arguments: &Arguments) -> Result<Status, Failure> {
     if z != "z" {
         return Err(arguments.wrong(&format!("steps write z, not {z:?}")));
     }
-    let (row, read_as) = (below(arguments, "ROW", row, 64)?, lane_type(arguments)?);
-    let lane = below(arguments, "LANE", lane, read_as.map_or(64, LaneType::lanes))?;
+    let (row, read_as) = (arguments.below("ROW", row, 64)?, arguments.lane_type()?);
+    let lane = arguments.below("LANE", lane, read_as.map_or(64, LaneType::lanes))?;
     let steps = Steps::open(file)?;
     let (header, mut output) = (steps.header.clone(), output::lines()?);
     let mut story = Story::new(Run::new(&header), row, lane, read_as);
