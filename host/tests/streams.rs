@@ -105,6 +105,8 @@ fn statuses_tell_how_it_ended() {
         (&["run", name(&room.0)], FILE),
         (&["run", name(&room.0.join("absent"))], FILE),
         (&["run", name(&file), "--summary", "--json"], USAGE),
+        (&["run", name(&file), "--summary", "--as", "i16"], USAGE),
+        (&["run", name(&file), "--summary", "--matrix"], USAGE),
         (&["run", name(&file), name(&file)], USAGE),
         (&["fly"], USAGE),
         (&["run", name(&room.write("wrong", "mac16 m3\n"))], TEXT),

@@ -32,6 +32,9 @@ impl Form {
     fn of(arguments: &Arguments) -> Result<Self, Failure> {
         match (arguments.is_given("--summary"), arguments.is_given("--json")) {
             (true, true) => Err(arguments.wrong("--summary and --json are both given")),
+            (true, false) if arguments.is_given("--as") || arguments.is_given("--matrix") => {
+                Err(arguments.wrong("--summary prints no rows, which --as and --matrix are about"))
+            }
             (true, false) => Ok(Form::Summary),
             (false, true) => Ok(Form::Json),
             (false, false) => Ok(Form::Lines),
