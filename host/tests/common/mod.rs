@@ -17,7 +17,7 @@ impl Room {
     pub fn new(name: &str) -> Self {
         static ROOMS: AtomicUsize = AtomicUsize::new(0);
         let number = ROOMS.fetch_add(1, Ordering::Relaxed);
-        let path = std::env::temp_dir().join(format!("amx-front-door-{}-{number}-{name}", std::process::id()));
+        let path = std::env::temp_dir().join(format!("amx-test-{}-{number}-{name}", std::process::id()));
         fs::create_dir_all(&path).unwrap();
         Room(path)
     }

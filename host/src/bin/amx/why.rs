@@ -24,21 +24,21 @@ pub fn why(arguments: &Arguments) -> Result<Status, Failure> {
     let lane = arguments.below("LANE", lane, read_as.map_or(64, LaneType::lanes))?;
     let steps = Steps::open(file)?;
     let (header, mut output) = (steps.header.clone(), output::lines()?);
-    let mut story = Story::new(Run::new(&header), row, lane, read_as);
+    let mut history = History::new(Run::new(&header), row, lane, read_as);
     for item in steps.shown(true) {
         let lines = match item? {
-            Item::Step(record) => story.step(record),
-            Item::Load(load) => story.load(&load),
+            Item::Step(record) => history.step(record),
+            Item::Load(load) => history.load(&load),
         };
         output.write_all(lines.as_bytes())?;
     }
-    output.write_all(story.end(header.state()).as_bytes())?;
+    output.write_all(history.end(header.state()).as_bytes())?;
     output.flush()?;
     Ok(Status::Ran)
 }
 
 /// What has become of a lane so far.
-struct Story {
+struct History {
     run: Run,
     row: usize,
     lane: usize,
@@ -53,9 +53,9 @@ struct Story {
     steps: u64,
 }
 
-impl Story {
+impl History {
     fn new(run: Run, row: usize, lane: usize, read_as: Option<LaneType>) -> Self {
-        Story { run, row, lane, read_as, is_asked: read_as.is_some(), sizes: Vec::new(), loads: None, written: 0, steps: 0 }
+        History { run, row, lane, read_as, is_asked: read_as.is_some(), sizes: Vec::new(), loads: None, written: 0, steps: 0 }
     }
 
     fn place(&self) -> Option<Lane> {
