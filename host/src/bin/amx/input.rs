@@ -101,12 +101,11 @@ impl Input {
 
     /// The steps of a trace. One of three sections is read twice.
     pub fn trace(self) -> Result<Steps, Failure> {
-        let (name, identity) = (self.name, self.identity);
-        if !self.first.contains(&0) {
-            let message =
-                format!("{name}: this is no trace file: it has no byte 0 among its first {TABLE}; amx asm makes a trace of a text");
-            return Err(Failure::Usage(message));
+        if !self.is_trace() {
+            let why = format!("it has no byte 0 among its first {TABLE}; amx asm makes a trace of a text");
+            return Err(Failure::Usage(format!("{}: this is no trace file: {why}", self.name)));
         }
+        let (name, identity) = (self.name, self.identity);
         match self.from {
             From::File(file) => Steps::of_trace(name, identity, TraceReader::seekable(file)),
             From::Once(from) => {
