@@ -1,4 +1,6 @@
 // The unit: one step of any instruction, the normal operand, and what a host in C or Rust calls.
+#![tactic(auto)]
+
 ghost use Rattle.std.specs.Prelude.{◌≡◌, cond, ◌+◌, ◌<◌, eqb, length};
 ghost use Rattle.isa.specs.State.{register_bytes, state_length, registers_of, count_of, last_count, state_of};
 ghost use Rattle.isa.specs.Effect.{applied, bytes_on};

@@ -1,4 +1,6 @@
 // amx_trace FILE: writes the text of a trace file to standard output. What goes wrong is said on standard error.
+#![tactic(auto)]
+
 use libc::STDERR_FILENO;
 
 fn say_usage() {

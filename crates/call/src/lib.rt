@@ -1,4 +1,6 @@
 // What a call is answered before it is run, and its normal operand. Every function takes every argument.
+#![tactic(auto)]
+
 ghost use Rattle.std.specs.Prelude.{◌≡◌, cond, not, ◌||◌, eqb};
 ghost use Rattle.isa.specs.declared.Answer.TheVariants.{Done};
 ghost use Rattle.isa.specs.Operand.{bit, cleared};

@@ -1,5 +1,7 @@
 // A trace file by its name: read in pieces, its steps run by run, and its text written to standard output as it goes. No more of the file is held than its
 // head, a run and the checkpoint. What C's functions read and write no contract can say; what they are handed it can.
+#![tactic(auto)]
+
 ghost use Rattle.std.specs.Prelude.{◌≡◌, true, false, ◌+◌, ◌-◌, ◌*◌, ◌≤◌, ◌<◌, ◌^◌, length};
 ghost use Rattle.number.specs.Bytes.{byte_at, number};
 ghost use Rattle.isa.specs.State.{state_length};
@@ -13,14 +15,14 @@ ghost use Rattle.disk.specs.Shown.{Holds, RunSays, Wrote, Turned, Alone};
 use libc::{SEEK_SET, STDOUT_FILENO};
 
 // What reading answers: how many bytes it put at the start of the buffer, or that it failed.
-#[derive(Drop)]
+#[derive(Clone, Copy)]
 enum Got {
     Bytes(usize),
     Failed,
 }
 
 // What looking at steps answers: all are there, with their padding clear or not; they are cut short; or reading failed.
-#[derive(Drop)]
+#[derive(Clone, Copy)]
 enum Checked {
     Whole(bool),
     Cut,
@@ -28,7 +30,7 @@ enum Checked {
 }
 
 // What printing a file answers: the length of its text, all of it written; that it cannot be read; or that standard output cannot be written.
-#[derive(Drop)]
+#[derive(Clone, Copy)]
 pub enum Shown {
     Printed(u64),
     Unreadable,
@@ -36,7 +38,7 @@ pub enum Shown {
 }
 
 // What a run answers: how much is written by then, where the next run follows; or what the whole answers.
-#[derive(Drop)]
+#[derive(Clone, Copy)]
 enum Turn {
     On(u64),
     Over(Shown),

@@ -1,4 +1,6 @@
 // Trace files, read from lent bytes. Every function open to callers takes every argument.
+#![tactic(auto)]
+
 ghost use Rattle.std.specs.Prelude.{◌≡◌, true, ◌≤◌, ◌<◌, ◌^◌};
 ghost use Rattle.std.proofs.lemmas.List.Edits.{sets};
 ghost use Rattle.number.specs.Bytes.{byte_at, number};
@@ -7,7 +9,7 @@ ghost use Rattle.file.specs.File.{entry_is, sections_right, table_right, head_as
 ghost use Rattle.file.specs.File.{run_of, records_in, call_at, record_of, read_as, loaded_start, loaded_saved, checkpoint_in, stored_bytes};
 
 // Why a file is refused.
-#[derive(Drop)]
+#[derive(Clone, Copy)]
 pub enum FileRefusal {
     Short,
     Contents,
@@ -15,21 +17,21 @@ pub enum FileRefusal {
 }
 
 // What opening a file answers: its number of steps, or why it is refused.
-#[derive(Drop)]
+#[derive(Clone, Copy)]
 pub enum Opened {
     Steps(usize),
     Refused(FileRefusal),
 }
 
 // The next step's place among the steps, and the number of steps.
-#[derive(Drop)]
+#[derive(Clone, Copy)]
 pub struct Cursor {
     pub next: usize,
     pub end: usize,
 }
 
 // A call as it stands in a file.
-#[derive(Drop)]
+#[derive(Clone, Copy)]
 pub struct Record {
     pub instruction: u64,
     pub generation: u64,
@@ -37,7 +39,7 @@ pub struct Record {
 }
 
 // What reading at a cursor finds: a step and the cursor behind it, or no step.
-#[derive(Drop)]
+#[derive(Clone, Copy)]
 pub enum Read {
     Record(Record, Cursor),
     End,

@@ -57,6 +57,8 @@ unfolding neg
 negated-is f not_number x h = ap neg h
 negated-is f (infinite s) x h = ap neg h
 negated-is f (finite s n) (fin t m e) h = (ap not h.0, h.1)
+negated-is f (finite s n) nan h = elim h [ ]
+negated-is f (finite s n) (inf _) h = elim h [ ]
 
 -- ---- what is written
 
@@ -137,6 +139,16 @@ plus-is f (infinite s) (infinite t) x y h k = ap₂ (sum_bits f) h k ∙ either 
 plus-is f (infinite s) (finite t n) x (fin t' m e) h k = ap (λ (z : Float). sum_bits f z (fin t' m e)) h ∙ inf_bits f s
 plus-is f (finite s m) not_number (fin s' m' e) y h k = ap (sum_bits f (fin s' m' e)) k ∙ nan_bits f
 plus-is f (finite s m) (infinite t) (fin s' m' e) y h k = ap (sum_bits f (fin s' m' e)) k ∙ inf_bits f t
+plus-is f (infinite s) (finite t n) x nan h k = elim k [ ]
+plus-is f (infinite s) (finite t n) x (inf _) h k = elim k [ ]
+plus-is f (finite s m) not_number nan y h k = elim h [ ]
+plus-is f (finite s m) not_number (inf _) y h k = elim h [ ]
+plus-is f (finite s m) (infinite t) nan y h k = elim h [ ]
+plus-is f (finite s m) (infinite t) (inf _) y h k = elim h [ ]
+plus-is f (finite s m) (finite t n) nan y h k = elim h [ ]
+plus-is f (finite s m) (finite t n) (inf _) y h k = elim h [ ]
+plus-is f (finite s m) (finite t n) (fin s' m' e) nan h k = elim k [ ]
+plus-is f (finite s m) (finite t n) (fin s' m' e) (inf _) h k = elim k [ ]
 plus-is f (finite s m) (finite t n) (fin s' m' e) (fin t' n' d) h k =
     let a : ℕ = m' * up e * down d in
     let b : ℕ = n' * up d * down e in
@@ -190,6 +202,16 @@ times-is f (finite s m) (infinite t) (fin s' m' e) y h k =
     ap (product_bits f (fin s' m' e)) k
     ∙ ap₂ (λ (a b : Bool). to_bits f (cond a nan (inf (unlike b t)))) (zero_test f s m s' m' e h) h.0
     ∙ infinity-times f (eqb m 0) (unlike s t)
+times-is f (infinite s) (finite t n) x nan h k = elim k [ ]
+times-is f (infinite s) (finite t n) x (inf _) h k = elim k [ ]
+times-is f (finite s m) not_number nan y h k = elim h [ ]
+times-is f (finite s m) not_number (inf _) y h k = elim h [ ]
+times-is f (finite s m) (infinite t) nan y h k = elim h [ ]
+times-is f (finite s m) (infinite t) (inf _) y h k = elim h [ ]
+times-is f (finite s m) (finite t n) nan y h k = elim h [ ]
+times-is f (finite s m) (finite t n) (inf _) y h k = elim h [ ]
+times-is f (finite s m) (finite t n) (fin s' m' e) nan h k = elim k [ ]
+times-is f (finite s m) (finite t n) (fin s' m' e) (inf _) h k = elim k [ ]
 times-is f (finite s m) (finite t n) (fin s' m' e) (fin t' n' d) h k =
     let a : ℕ = m' * up e in
     let b : ℕ = n' * up d in
@@ -226,3 +248,5 @@ at-most_zero f (finite s n) (fin t m e) h =
     ap (λ (b : ℕ). below t a false b || level t a false b) (zero-mul (down e))
     ∙ at_most t a
     ∙ ap₂ (λ (x y : Bool). x || y) h.0 (zero_same a n (2 ^ low f) (down e) (pow_pos (low f)) (down_pos e) value)
+at-most_zero f (finite s n) nan h = elim h [ ]
+at-most_zero f (finite s n) (inf _) h = elim h [ ]

@@ -34,6 +34,8 @@ bits_of f (fin t m e) s n (same, h) =
     let k : ℕ = size n - prec f in
     ap₂ (λ (b : Bool) (x : ℕ). cond b (top f) 0 + (size x - prec f) * hid f + x / 2 ^ (size x - prec f)) same whole
     ∙ add_assoc (cond s (top f) 0) (k * hid f) (n / 2 ^ k)
+bits_of f lib.Ieee.nan s n x' = elim x' [ ]
+bits_of f (inf _) s n x3 = elim x3 [ ]
 
 -- ---- the digits that are kept, and those dropped
 

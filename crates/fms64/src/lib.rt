@@ -1,4 +1,6 @@
 // fms64 on a lent state.
+#![tactic(auto)]
+
 ghost use Rattle.std.specs.Prelude.{◌≡◌, true, false, cond, ◌+◌, ◌*◌, ◌<◌, eqb, length, get_or};
 ghost use Rattle.std.specs.Float.{binary64};
 ghost use Rattle.number.specs.Bytes.{number, table};

@@ -1,4 +1,6 @@
 // An operation on all lanes of a row, by their patterns. Every open function takes every argument.
+#![tactic(auto)]
+
 ghost use Rattle.std.specs.Prelude.{◌≡◌, true, ◌≤◌};
 ghost use Rattle.std.specs.Float.{binary32, binary64};
 ghost use Rattle.number.specs.Bytes.{table};

@@ -1,4 +1,6 @@
 // The 64 bytes of X and of Y that a vector of vecint uses. Every open function takes every argument.
+#![tactic(auto)]
+
 ghost use Rattle.std.specs.Prelude.{◌≡◌, true, false, cond, ◌+◌, ◌*◌, ◌%◌, ◌^◌, ◌<◌, ◌≤◌, eqb};
 ghost use Rattle.number.specs.Bytes.{byte_at, table};
 ghost use Rattle.isa.specs.Vecint as Vecint;
@@ -158,7 +160,7 @@ fn advance_by(four: bool, wide: bool) -> u64
 }
 
 // 64 bytes and the width of their elements: two bytes, or one.
-#[derive(Drop)]
+#[derive(Clone, Copy)]
 struct Elements {
     bytes: [u8; 64],
     wide: bool,

@@ -1,4 +1,6 @@
 // mac16 on a lent state.
+#![tactic(auto)]
+
 ghost use Rattle.std.specs.Prelude.{◌≡◌, true, false, cond, not, ◌+◌, ◌*◌, ◌/◌, ◌%◌, ◌≤◌, ◌<◌, eqb, pos, length, get_or, replicate};
 ghost use Rattle.number.specs.Bytes.{byte_at, table};
 ghost use Rattle.isa.specs.Operand.{bits, bit};

@@ -1,5 +1,7 @@
 // Masks: the lanes that an enable mode enables, as one number whose bit k tells of lane k. A mask has 64 places, as many as any form has lanes;
 // those past a form's lanes have what the rule says there, and neither a row nor a count takes them in. Every open function takes every argument.
+#![tactic(auto)]
+
 ghost use Rattle.std.specs.Prelude.{◌≡◌, cond, ◌||◌, ◌%◌, ◌<◌, ◌≤◌, ltb, eqb};
 ghost use Rattle.number.specs.Bytes.{table};
 ghost use Rattle.isa.specs.Operand.{bit};

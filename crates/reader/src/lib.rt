@@ -1,21 +1,23 @@
 // A thin reader over the decoder of records: it holds the bytes of the steps and the cursor.
+#![tactic(auto)]
+
 ghost use Rattle.std.specs.Prelude.{◌≡◌};
 ghost use Rattle.reader.specs.Reading.{found_as, reader_at, moved};
 
-#[derive(Drop)]
+#[derive(Clone, Copy)]
 pub enum Step {
     Record(file::Record),
     End,
 }
 
 // The step that a cursor is at, and the cursor behind it.
-#[derive(Drop)]
+#[derive(Clone, Copy)]
 pub struct Found {
     pub step: Step,
     pub cursor: file::Cursor,
 }
 
-#[derive(Drop)]
+#[derive(Clone, Copy)]
 pub struct Reader<'a> {
     pub steps: &'a [u8],
     pub cursor: file::Cursor,

@@ -1,4 +1,6 @@
 // ALU mode 4 of vecint, which works on Z alone: one row.
+#![tactic(auto)]
+
 ghost use Rattle.std.specs.Prelude.{◌≡◌, true, false, cond, ◌+◌, ◌%◌, ◌^◌, ◌<◌, ◌≤◌, eqb, length, get_or};
 ghost use Rattle.std.specs.Int.Signed.{mag};
 ghost use Rattle.std.proofs.lemmas.List.Edits.{sets};
@@ -11,7 +13,7 @@ ghost use Rattle.reduction.specs.Reduction.{width_in, value_of, reduce_to, added
 
 // What mode 4 does to a lane: Z is read as signed or not; what is shifted is rounded or not; the range that is clamped to reaches below 0 or not,
 // and has a width in bytes. Where the output is forced to 0, nothing else matters.
-#[derive(Drop)]
+#[derive(Clone, Copy)]
 pub struct Reduce {
     pub clears: bool,
     pub sign: bool,

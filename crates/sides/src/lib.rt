@@ -1,4 +1,6 @@
 // The lanes of X or Y as integers, and the terms that vecint's ALU makes of them. Every function takes every argument.
+#![tactic(auto)]
+
 ghost use Rattle.std.specs.Prelude.{◌≡◌, true, false, cond, ◌+◌, ◌*◌, ◌/◌, ◌%◌, ◌<◌, ◌≤◌, ◌^◌, ltb, pos, ◌+ℤ◌, ◌*ℤ◌, get_or};
 ghost use Rattle.std.specs.Int.Signed.{mag};
 ghost use Rattle.number.specs.Bytes.{table};
@@ -7,7 +9,7 @@ ghost use Rattle.sides.specs.Sides.{lane_of, lane_bytes, side_of, side_by, term_
 
 // How 64 bytes make a side: lanes of two bytes or of one, signed or not; one lane for all, or each lane of two bytes twice, where the other side
 // is narrower.
-#[derive(Drop)]
+#[derive(Clone, Copy)]
 pub struct SideForm {
     pub wide: bool,
     pub sign: bool,

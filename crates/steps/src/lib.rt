@@ -1,5 +1,7 @@
 // Records run one after another on a lent state, with a line for each in a lent buffer. The lines are numbered from a first number on, so
 // that a longer run is such runs joined up.
+#![tactic(auto)]
+
 ghost use Rattle.std.specs.Prelude.{◌≡◌, ◌+◌, ◌*◌, ◌≤◌, ◌<◌, length};
 ghost use Rattle.std.proofs.lemmas.List.Edits.{sets};
 ghost use Rattle.isa.specs.Step as Step;

@@ -1,6 +1,8 @@
 // The lines that a trace prints, each stored in a lent buffer from a position on. A byte past the buffer's end is not stored, and the result is the
 // position after the line all the same: past the buffer's length where the line did not fit. Every function that is pub takes every argument.
 // What is called store asks for room and does not test it; what is called put tests it.
+#![tactic(auto)]
+
 ghost use Rattle.std.specs.Prelude.{◌≡◌, ◌∷◌, [], ◌++◌, ◌+◌, ◌≤◌, ◌<◌, ◌^◌, ◌/◌, ◌%◌, length};
 ghost use Rattle.std.proofs.lemmas.List.Edits.{sets};
 ghost use Rattle.isa.specs.declared.Answer.TheVariants.{Done};

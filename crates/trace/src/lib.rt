@@ -1,4 +1,6 @@
 // The steps of a trace file, run by run on a lent state, and the text of each run in a lent buffer. Every function open to callers takes every argument.
+#![tactic(auto)]
+
 ghost use Rattle.std.specs.Prelude.{◌≡◌, ◌+◌, ◌≤◌, ◌<◌, length};
 ghost use Rattle.std.proofs.lemmas.List.Edits.{sets};
 ghost use Rattle.number.specs.Bytes.{byte_at, table};
@@ -8,7 +10,7 @@ ghost use Rattle.trace.specs.Trace.{differ, row_line, z_lines, end_text};
 ghost use Rattle.trace.specs.Runs.{run_text, ran_to, ran_as};
 
 // What a run answers: the length of its text, and whether the next one follows or the file is refused in it.
-#[derive(Drop)]
+#[derive(Clone, Copy)]
 pub enum Ran {
     On(usize),
     Stopped(usize),

@@ -1,4 +1,6 @@
 // traces FILE..: the name and then the text of each file, so that one run covers all stored traces.
+#![tactic(auto)]
+
 use libc::STDOUT_FILENO;
 
 fn print_named(i: usize) {

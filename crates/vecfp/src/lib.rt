@@ -1,4 +1,6 @@
 // vecfp on a lent state.
+#![tactic(auto)]
+
 ghost use Rattle.std.specs.Prelude.{◌≡◌, cond, ◌+◌, ◌*◌, ◌/◌, ◌<◌, ◌≤◌, eqb, length};
 ghost use Rattle.std.specs.Float.{binary32, binary64};
 ghost use Rattle.isa.specs.State.{x_base, y_base, register_bytes, loaded};
@@ -12,7 +14,7 @@ ghost use Rattle.vecfp.specs.Vectors.{x_lane, y_lane, x_side, y_side, words_of, 
 // ---- the sides of a vector
 
 // Where the 64 bytes of Y, or of X, begin, whether they are read as 0, and the lane that every lane uses.
-#[derive(Drop)]
+#[derive(Clone, Copy)]
 pub struct Side {
     pub y: bool,
     pub zero: bool,

@@ -1,4 +1,6 @@
 // vecint on a lent state.
+#![tactic(auto)]
+
 ghost use Rattle.std.specs.Prelude.{◌≡◌, ◌+◌, ◌*◌, ◌/◌, ◌<◌, ◌≤◌, true, false, cond, ◌||◌, length, neg_ℤ, if◌then◌else◌, ◌==◌, nat_eq, slice_index_or};
 ghost use Rattle.number.specs.Bytes.{span};
 ghost use Rattle.number.specs.Integers.{signed, wrap, kept};
@@ -16,7 +18,7 @@ ghost use Rattle.vecint.specs.Vectors.{vector_lanes, x_side_of, y_side_of, fixed
 
 // What a mode does, lane by lane: a sum of x and y or a product, X or Y left out as 0, and what becomes of the term, which is negated, added to
 // old Z and clamped, or not.
-#[derive(Drop)]
+#[derive(Clone, Copy)]
 pub struct Alu {
     pub sums: bool,
     pub skipx: bool,

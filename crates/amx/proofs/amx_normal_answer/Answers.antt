@@ -1,0 +1,7 @@
+use mathlib.Core.Path.{ap, ◌∙◌}
+use Rattle.isa.specs.Answers.{normal_number}
+use borrow.Author.Rules.{rules}
+use Rattle.amx.proofs.amx_normal_answer.Goals as goal
+
+pub returns : goal.returns
+returns c = c.normal_number.ensures ∙ ap normal_number c.normal.ensures

@@ -1,0 +1,19 @@
+use Rattle.number.proofs.Fill.{Filling, filling-none, filling-more, filling-all}
+use Rattle.float.specs.Floats.{negated}
+use lib.Ieee.{binary64}
+use lib.ListN.{get_or, replicate}
+use Prim.Native.Nat.{◌-◌}
+use native.Mathlib.Omega.{arith}
+use mathlib.Core.Path.{refl}
+use borrow.Author.Rules.{rules}
+use Rattle.fms64.proofs.negatives.Goals as goal
+
+pub loop-l-init : goal.loop-l-init
+loop-l-init c = filling-none 0 _ 8 (replicate 8 0) refl
+
+pub loop-l-preserved : goal.loop-l-preserved
+loop-l-preserved c =
+    filling-more 0 _ 8 c.loop-l.l c.neg64.result c.loop-l.out (omega arith) c.neg64.ensures c.loop-l.invariant
+
+pub returns : goal.returns
+returns c = filling-all 0 _ 8 c.loop-l.l c.loop-l.out c.loop-l-test.false c.loop-l.invariant

@@ -1,0 +1,8 @@
+use borrow.Author.Rules.{rules}
+use Rattle.isa.proofs.host_number.Goals as goal
+
+pub returns-in-NoOp : goal.returns-in-NoOp
+returns-in-NoOp c = cc
+
+pub returns-in-Refused : goal.returns-in-Refused
+returns-in-Refused c = cc

@@ -1,0 +1,27 @@
+use mathlib.Core.Path.{refl}
+use Prim.Native.Nat.{◌-◌}
+use native.Mathlib.Omega.{arith}
+use lib.Ieee.{binary64}
+use lib.ListN.{replicate}
+use borrow.Author.Rules.{rules}
+use Rattle.number.proofs.Fill.{Filling, filling-none, filling-more, filling-all}
+use Rattle.float.specs.Floats.{selected}
+use Rattle.lanes.specs.Lanes.{each}
+use Rattle.lanes.proofs.choices64.Goals as goal
+
+pub finite_choices64-requires : goal.finite_choices64-requires
+finite_choices64-requires c = c.finite64.ensures c.if-finite64.true
+
+pub returns-then-finite64 : goal.returns-then-finite64
+returns-then-finite64 c = c.finite_choices64.ensures
+
+pub loop-l-init : goal.loop-l-init
+loop-l-init c = filling-none 0 _ 8 (replicate 8 0) refl
+
+pub loop-l-preserved : goal.loop-l-preserved
+loop-l-preserved c =
+    filling-more 0 _ 8 c.loop-l.l c.select64.result c.loop-l.out (omega arith) c.select64.ensures c.loop-l.invariant
+
+pub returns : goal.returns
+returns c =
+    filling-all 0 _ 8 c.loop-l.l c.loop-l.out c.loop-l-test.false c.loop-l.invariant

@@ -1,0 +1,13 @@
+use Prim.Native.Nat.{◌-◌, ◌≤◌}
+use native.Mathlib.Omega.{arith}
+use lib.Ieee.{binary64}
+use borrow.Author.Rules.{rules}
+use borrow.Author.Tests.{eqb-true}
+use Rattle.lanes.proofs.Finite.{Counted, counted_none, counted-more}
+use Rattle.lanes.proofs.finite64.Given as goal
+
+abbrev pub invariant-loop-l : goal.invariant-loop-l
+invariant-loop-l l = (l.l ≤ 8) × Counted binary64 l.a l.l l.special
+
+abbrev pub decreases-loop-l : goal.decreases-loop-l
+decreases-loop-l l = 8 - l.l

@@ -1,0 +1,25 @@
+use mathlib.Core.Path.{refl}
+use Prim.Native.Nat.{◌-◌}
+use native.Mathlib.Omega.{arith}
+use lib.Ieee.{binary64}
+use lib.ListN.{replicate}
+use borrow.Author.Rules.{rules}
+use Rattle.number.proofs.Fill.{Filling, filling-none, filling-more, filling-all}
+use Rattle.float.specs.Floats.{selected}
+use Rattle.lanes.specs.Lanes.{each}
+use Rattle.lanes.proofs.finite_choices64.Goals as goal
+
+pub loop-l-init : goal.loop-l-init
+loop-l-init c = filling-none 0 _ 8 (replicate 8 0) refl
+
+pub finite_select64-requires : goal.finite_select64-requires
+finite_select64-requires c =
+    c.requires c.loop-l.l (omega arith)
+
+pub loop-l-preserved : goal.loop-l-preserved
+loop-l-preserved c =
+    filling-more 0 _ 8 c.loop-l.l c.finite_select64.result c.loop-l.out (omega arith) c.finite_select64.ensures c.loop-l.invariant
+
+pub returns : goal.returns
+returns c =
+    filling-all 0 _ 8 c.loop-l.l c.loop-l.out c.loop-l-test.false c.loop-l.invariant

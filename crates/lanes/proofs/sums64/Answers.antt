@@ -1,0 +1,28 @@
+use mathlib.Core.Path.{refl}
+use Prim.Native.Nat.{◌-◌}
+use native.Mathlib.Omega.{arith}
+use lib.Ieee.{binary64}
+use lib.ListN.{replicate}
+use borrow.Author.Rules.{rules}
+use Rattle.number.proofs.Fill.{Filling, filling-none, filling-more, filling-all}
+use Rattle.float.specs.Floats.{added}
+use Rattle.lanes.specs.Lanes.{each}
+use Rattle.lanes.proofs.sums64.Goals as goal
+
+pub finite_sums64-requires : goal.finite_sums64-requires
+finite_sums64-requires c =
+    (c.finite64.ensures c.if-finite64.true, c.finite64-then-finite64.ensures c.if-finite64-2.true)
+
+pub returns-then-finite64-2 : goal.returns-then-finite64-2
+returns-then-finite64-2 c = c.finite_sums64.ensures
+
+pub loop-l-init : goal.loop-l-init
+loop-l-init c = filling-none 0 _ 8 (replicate 8 0) refl
+
+pub loop-l-preserved : goal.loop-l-preserved
+loop-l-preserved c =
+    filling-more 0 _ 8 c.loop-l.l c.add64.result c.loop-l.out (omega arith) c.add64.ensures c.loop-l.invariant
+
+pub returns : goal.returns
+returns c =
+    filling-all 0 _ 8 c.loop-l.l c.loop-l.out c.loop-l-test.false c.loop-l.invariant

@@ -1,0 +1,19 @@
+use mathlib.Core.Path.{◌≡◌, refl}
+use mathlib.Core.Bool.{Bool}
+use mathlib.Core.List.{List}
+use Prim.Native.Nat.{ℕ, ◌-◌, ◌≤◌}
+use native.Mathlib.Nat.{not-suc-le-zero}
+use native.Mathlib.Omega.{arith}
+use lib.ListN.{length, length-set}
+use Rattle.number.specs.Bytes.{byte_at}
+use Rattle.number.proofs.Fill.{Filled, fill_more, fill-all}
+use Rattle.isa.specs.Vecint as Vecint
+use Rattle.sides.specs.Sides.{lane_bytes}
+use borrow.Author.Rules.{rules}
+use Rattle.loads.proofs.picks.Given as goal
+
+abbrev pub invariant-loop-i : goal.invariant-loop-i
+invariant-loop-i l = (l.i ≤ 64) × (length l.out ≡ 64) × Filled 0 (byte l.packed l.register l.wide l.four) l.out l.i
+
+abbrev pub decreases-loop-i : goal.decreases-loop-i
+decreases-loop-i l = 64 - l.i

@@ -1,0 +1,10 @@
+use Rattle.operand.proofs.Fields.{bits-lt}
+use native.Mathlib.Omega.{arith}
+use borrow.Author.Rules.{rules}
+use Rattle.mac16.proofs.shift.Goals as goal
+
+pub overflow_cast-result : goal.overflow_cast-result
+overflow_cast-result c = record { fits = omega (arith, c.field.ensures, bits-lt c.args.op 55 59) }
+
+pub returns : goal.returns
+returns c = (c.field.ensures, omega (arith, c.field.ensures, bits-lt c.args.op 55 59))

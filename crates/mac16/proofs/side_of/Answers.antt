@@ -1,0 +1,16 @@
+use mathlib.Core.Path.{sym, ap, ◌∙◌}
+use mir.Facts.{to_z-of_z}
+use lib.ListN.{replicate}
+use mathlib.Core.Bool.{true, false}
+use Rattle.mac16.proofs.Sides.{same-all, side-skipped, side-lanes}
+use borrow.Author.Rules.{rules}
+use Rattle.mac16.proofs.side_of.Goals as goal
+
+pub returns-then-skip : goal.returns-then-skip
+returns-then-skip c = ap (replicate 32) (to_z-of_z c.ranges.other) ∙ same-all 32 c.args.other ∙ side-skipped c.args.byte c.args.skip c.args.other c.args.bytes.now c.if-skip.true
+
+pub returns-then-byte : goal.returns-then-byte
+returns-then-byte c = c.lanes8.ensures ∙ side-lanes c.args.byte c.args.skip c.args.other c.args.bytes.now true c.if-skip.false (sym c.if-byte.true)
+
+pub returns : goal.returns
+returns c = c.lanes16.ensures ∙ side-lanes c.args.byte c.args.skip c.args.other c.args.bytes.now false c.if-skip.false (sym c.if-byte.false)

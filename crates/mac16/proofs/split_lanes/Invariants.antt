@@ -1,0 +1,19 @@
+use borrow.Author.Rules.{rules}
+use Rattle.mac16.specs.Products.{split}
+use Rattle.number.proofs.Fill.{Filled, fill_more, fill-all}
+use native.Mathlib.Nat.{not-suc-le-zero}
+use lib.IntN.{pos}
+use lib.ListN.{length, get_or, length-set}
+use Prim.Native.Nat.{◌+◌, ◌*◌, ◌-◌, ◌/◌, ◌%◌, ◌≤◌}
+use mir.Syntax.{w16}
+use mir.Facts.{to_z-of_z}
+use borrow.Author.Rules.{sfits_of}
+use native.Mathlib.Omega.{arith}
+use mathlib.Core.Path.{◌≡◌, refl}
+use Rattle.mac16.proofs.split_lanes.Given as goal
+
+abbrev pub invariant-loop-k : goal.invariant-loop-k
+invariant-loop-k l = (l.k ≤ 32) × (length l.out ≡ 32) × Filled (pos 0) (λ i. get_or l.xs (2 * (i % 16) + i / 16) (pos 0)) l.out l.k
+
+abbrev pub decreases-loop-k : goal.decreases-loop-k
+decreases-loop-k l = 32 - l.k

@@ -1,0 +1,16 @@
+use borrow.Author.Rules.{rules}
+use Rattle.mac16.specs.Products.{split}
+use Rattle.number.proofs.Fill.{Filled, fill_more, fill-all}
+use native.Mathlib.Nat.{not-suc-le-zero}
+use mathlib.Core.Bool.{false}
+use lib.ListN.{length, get_or, length-set}
+use Prim.Native.Nat.{◌+◌, ◌*◌, ◌-◌, ◌/◌, ◌%◌, ◌≤◌}
+use native.Mathlib.Omega.{arith}
+use mathlib.Core.Path.{◌≡◌, refl}
+use Rattle.mac16.proofs.split_mask.Given as goal
+
+abbrev pub invariant-loop-k : goal.invariant-loop-k
+invariant-loop-k l = (l.k ≤ 32) × (length l.out ≡ 32) × Filled false (λ i. get_or l.on (2 * (i % 16) + i / 16) false) l.out l.k
+
+abbrev pub decreases-loop-k : goal.decreases-loop-k
+decreases-loop-k l = 32 - l.k

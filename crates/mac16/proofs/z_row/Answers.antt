@@ -1,0 +1,7 @@
+use Rattle.operand.proofs.Fields.{bits-lt}
+use native.Mathlib.Omega.{arith}
+use borrow.Author.Rules.{rules}
+use Rattle.mac16.proofs.z_row.Goals as goal
+
+pub returns : goal.returns
+returns c = (c.field.ensures, omega (arith, c.field.ensures, bits-lt c.args.op 20 25))

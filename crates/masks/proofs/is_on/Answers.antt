@@ -1,0 +1,7 @@
+use mathlib.Core.Path.{refl}
+use Rattle.masks.proofs.Lanes.{lane-in_word}
+use borrow.Author.Rules.{rules}
+use Rattle.masks.proofs.is_on.Goals as goal
+
+pub returns : goal.returns
+returns c = lane-in_word c.args.mask c.args.k _ refl

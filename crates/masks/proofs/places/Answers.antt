@@ -1,0 +1,7 @@
+use mathlib.Core.Path.{sym}
+use Rattle.number.proofs.Tests.{pick_true}
+use borrow.Author.Rules.{rules}
+use Rattle.masks.proofs.places.Goals as goal
+
+pub returns-then-halved : goal.returns-then-halved
+returns-then-halved c = sym (pick_true _ _ c.if-halved.true)

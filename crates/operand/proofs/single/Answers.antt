@@ -1,0 +1,8 @@
+use mathlib.Core.Path.{ap}
+use Prim.Native.Nat.{ℕ}
+use lib.Dec.{eqb}
+use borrow.Author.Rules.{rules}
+use Rattle.operand.proofs.single.Goals as goal
+
+pub returns : goal.returns
+returns c = ap (λ (n : ℕ). eqb n 4) c.width_number.ensures.0

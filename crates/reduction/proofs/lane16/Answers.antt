@@ -1,0 +1,7 @@
+use Rattle.reduction.proofs.Cases.{stored_is}
+use mathlib.Core.Path.{◌∙◌}
+use borrow.Author.Rules.{rules}
+use Rattle.reduction.proofs.lane16.Goals as goal
+
+pub returns : goal.returns
+returns c = c.store16.ensures ∙ stored_is 2 c.args.how c.args.state.now c.args.at c.args.on c.load16-z.result c.new16-n.result c.chosen16.result c.load16-z.ensures c.new16-n.ensures c.chosen16.ensures

@@ -1,0 +1,16 @@
+use Rattle.reduction.proofs.Cases.{added-fits, added_is, sum_fits}
+use mir.Syntax.{w64}
+use mir.Facts.{to_z-of_z}
+use borrow.Author.Rules.{sfits_of}
+use mathlib.Core.Path.{ap, ◌∙◌}
+use Prim.Native.Nat.{◌%◌}
+use lib.IntN.{ℤ, ◌+ℤ◌}
+use Rattle.number.specs.Integers.{◌≫◌}
+use borrow.Author.Rules.{rules}
+use Rattle.reduction.proofs.moved.Goals as goal
+
+pub overflow_add-old : goal.overflow_add-old
+overflow_add-old c = added-fits w64 c.args.old c.rounding.result c.ranges.old (sfits_of c.rounding.type_inv) (sum_fits c.args.old c.rounding.result c.requires c.rounding.ensures.1)
+
+pub returns : goal.returns
+returns c = to_z-of_z (sfits_of c.shifted.type_inv) ∙ c.shifted.ensures.0 ∙ ap (λ (x : ℤ). x ≫ (c.args.how.shift % 32)) (added_is w64 c.args.old c.rounding.result c.ranges.old (sfits_of c.rounding.type_inv) (sum_fits c.args.old c.rounding.result c.requires c.rounding.ensures.1) ∙ ap (λ (x : ℤ). c.args.old +ℤ x) c.rounding.ensures.0)

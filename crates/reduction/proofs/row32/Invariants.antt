@@ -1,0 +1,16 @@
+use borrow.Author.Rules.{rules}
+use native.Mathlib.Omega.{arith}
+use mathlib.Core.Path.{refl, sym, ◌∙◌}
+use mathlib.Core.Bool.{false}
+use Prim.Native.Nat.{◌-◌, ◌≤◌}
+use lib.ListN.{get_or}
+use Rattle.state.proofs.Holds.{Bytes}
+use Rattle.state.proofs.Dealing.{Lanes, lanes-none, lanes-more, lanes_all}
+use Rattle.reduction.specs.Reduction.{reduce_to}
+use Rattle.reduction.proofs.row32.Given as goal
+
+abbrev pub invariant-loop-l : goal.invariant-loop-l
+invariant-loop-l l = (l.l ≤ 16) × Lanes 4 16 refl l.row (λ l.l. get_or l.on l.l false) (λ l.l. reduce_to 4 l.how) l.initial.state l.l l.state × Bytes l.state
+
+abbrev pub decreases-loop-l : goal.decreases-loop-l
+decreases-loop-l l = 16 - l.l

@@ -1,0 +1,15 @@
+use Prim.Native.Nat.{◌-◌, ◌/◌, ◌≤◌}
+use lib.ListN.{length, length-set}
+use native.Mathlib.Nat.{not-suc-le-zero}
+use mathlib.Core.Path.{◌≡◌, refl}
+use native.Mathlib.Omega.{arith}
+use Rattle.number.proofs.Fill.{Filled, fill_more}
+use Rattle.sides.proofs.FirstLanes.{inside}
+use borrow.Author.Rules.{rules}
+use Rattle.sides.proofs.filled.Given as goal
+
+abbrev pub invariant-loop-i : goal.invariant-loop-i
+invariant-loop-i l = (l.i ≤ l.m) × (length l.out ≡ 64) × Filled 0 (λ k. l.v) l.out l.i
+
+abbrev pub decreases-loop-i : goal.decreases-loop-i
+decreases-loop-i l = l.m - l.i

@@ -1,0 +1,15 @@
+use Prim.Native.Nat.{◌+◌, ◌-◌, ◌/◌, ◌%◌}
+use mir.Facts.{to_z-of_z}
+use mir.Syntax.{w16}
+use native.Mathlib.Omega.{arith}
+use Rattle.sides.proofs.Lanes.{shifted-byte}
+use Rattle.number.proofs.Range.{signed-fits}
+use mir.Facts.{to_z_pos}
+use borrow.Author.Rules.{rules}
+use Rattle.sides.proofs.sign8.Goals as goal
+
+pub overflow_sub-result : goal.overflow_sub-result
+overflow_sub-result c = rw (to_z_pos w16 {n = (c.args.n + 128) % 256} (omega arith), shifted-byte c.args.n (omega arith)) (signed-fits w16 1 c.args.n (omega arith) (omega arith))
+
+pub returns : goal.returns
+returns c = rw (to_z_pos w16 {n = (c.args.n + 128) % 256} (omega arith), shifted-byte c.args.n (omega arith)) (to_z-of_z (signed-fits w16 1 c.args.n (omega arith) (omega arith)))

@@ -1,0 +1,16 @@
+use Prim.Native.Nat.{◌-◌, ◌*◌, ◌/◌, ◌≤◌}
+use lib.ListN.{length, get_or, length-set}
+use native.Mathlib.Nat.{not-suc-le-zero}
+use mathlib.Core.Path.{◌≡◌, refl}
+use native.Mathlib.Omega.{arith}
+use Rattle.number.proofs.Fill.{Filled}
+use Rattle.sides.proofs.Lanes.{twice-more}
+use Rattle.sides.proofs.FirstLanes.{inside}
+use borrow.Author.Rules.{rules}
+use Rattle.sides.proofs.twice.Given as goal
+
+abbrev pub invariant-loop-i : goal.invariant-loop-i
+invariant-loop-i l = (l.i ≤ l.m) × (length l.out ≡ 64) × Filled 0 (λ k. get_or l.xs (k / 2) 0) l.out (2 * l.i)
+
+abbrev pub decreases-loop-i : goal.decreases-loop-i
+decreases-loop-i l = l.m - l.i

@@ -1,0 +1,14 @@
+use Rattle.std.proofs.Common.{◌-◌, ◌*◌, replicate, refl, arith, rules}
+use Rattle.number.specs.Bytes.{byte_at, number}
+use Rattle.number.proofs.Fill.{Filling, filling-none, filling-more, filling-all}
+use Rattle.state.proofs.words32.Goals as goal
+
+pub loop-l-init : goal.loop-l-init
+loop-l-init c = filling-none 0 _ 16 (replicate 16 0) refl
+
+pub loop-l-preserved : goal.loop-l-preserved
+loop-l-preserved c =
+    filling-more 0 _ 16 c.loop-l.l c.get32.result c.loop-l.out (omega arith) c.get32.ensures c.loop-l.invariant
+
+pub returns : goal.returns
+returns c = filling-all 0 _ 16 c.loop-l.l c.loop-l.out c.loop-l-test.false c.loop-l.invariant

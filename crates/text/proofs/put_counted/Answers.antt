@@ -1,0 +1,12 @@
+use Rattle.text.specs.Lines.{digits}
+use Rattle.text.proofs.Pieces.{stored_counted}
+use borrow.Author.Rules.{rules}
+use Rattle.text.proofs.put_counted.Goals as goal
+
+pub returns : goal.returns
+returns c =
+    let a = c.args in
+    let put_word = c.put_word-next in
+    let put-decimal = c.put_decimal in
+    stored_counted a.out.now put_word.new.0 put-decimal.new.0 a.at put_word.result put-decimal.result a.word.now
+    (digits a.n) put_word.ensures put-decimal.ensures.0 put-decimal.ensures.1

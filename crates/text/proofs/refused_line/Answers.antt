@@ -1,0 +1,11 @@
+use Rattle.text.proofs.Text.{file_stored}
+use borrow.Author.Rules.{rules}
+use Rattle.text.proofs.refused_line.Goals as goal
+
+pub returns : goal.returns
+returns c =
+    let a = c.args in
+    let put-counted = c.put_counted-next in
+    let put = c.put in
+    file_stored a.out.now put-counted.new.0 put.new.0 a.at put-counted.result put.result a.number put-counted.ensures.0
+    put.ensures

@@ -1,0 +1,13 @@
+use Rattle.text.proofs.Text.{row-stored}
+use borrow.Author.Rules.{rules}
+use Rattle.text.proofs.z_line.Goals as goal
+
+pub returns : goal.returns
+returns c =
+    let a = c.args in
+    let put-counted = c.put_counted-next in
+    let put = c.put-next in
+    let put-hex = c.put_hex-next in
+    let put2 = c.put in
+    row-stored a.out.now put-counted.new.0 put.new.0 put-hex.new.0 put2.new.0 a.at put-counted.result put.result
+    put-hex.result put2.result a.row a.bytes.now put-counted.ensures.0 put.ensures put-hex.ensures.0 put2.ensures

@@ -1,0 +1,12 @@
+use Rattle.file.specs.File.{file_refusal_number}
+use Rattle.text.specs.Lines.{refused_line}
+use Rattle.trace.proofs.Room.{refused-stored, stored_front}
+use borrow.Author.Rules.{rules}
+use Rattle.trace.proofs.print_refused.Goals as goal
+
+pub returns : goal.returns
+returns c =
+    let a = c.args in
+    stored_front a.out.now c.refused_line.new.0 (refused_line (file_refusal_number a.refusal)) c.refused_line.result
+    (refused-stored a.out.now c.refused_line.new.0 0 c.file_refusal_number-number.result c.refused_line.result a.refusal
+    c.file_refusal_number-number.ensures.0 c.refused_line.ensures)

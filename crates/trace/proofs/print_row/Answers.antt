@@ -1,0 +1,24 @@
+use borrow.Author.Tests.{not-true, not-false}
+use Rattle.text.specs.Lines.{z_line}
+use Rattle.trace.specs.Trace.{row_line}
+use Rattle.trace.proofs.Rows.{line-none, line-there, line-fits, row_kept, row-printed}
+use borrow.Author.Rules.{rules}
+use Rattle.trace.proofs.print_row.Goals as goal
+
+pub returns-then-not-rows_differ : goal.returns-then-not-rows_differ
+returns-then-not-rows_differ c =
+    let a = c.args in
+    row_kept a.out.now a.at (row_line a.start.now a.state.now a.row)
+    (line-none a.start.now a.state.now c.row_at-before.result c.row_at-after.result a.row c.requires.0 c.row_at-before.ensures
+    c.row_at-after.ensures c.rows_differ.result c.rows_differ.ensures (not-true c.rows_differ.result c.if-not-rows_differ.true))
+
+pub returns : goal.returns
+returns c =
+    let a = c.args in
+    row-printed a.out.now c.z_line.new.0 a.at c.z_line.result (z_line a.row c.row_at-after.result)
+    (row_line a.start.now a.state.now a.row)
+    (line-there a.start.now a.state.now c.row_at-before.result c.row_at-after.result a.row c.requires.0 c.row_at-before.ensures
+    c.row_at-after.ensures c.rows_differ.result c.rows_differ.ensures (not-false c.rows_differ.result c.if-not-rows_differ.false))
+    (line-fits a.start.now a.state.now c.row_at-before.result c.row_at-after.result a.row c.requires.0 c.row_at-before.ensures
+    c.row_at-after.ensures)
+    c.z_line.ensures

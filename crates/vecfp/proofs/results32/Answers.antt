@@ -1,0 +1,18 @@
+use mathlib.Core.Path.{refl}
+use lib.Ieee.{binary32}
+use Rattle.number.specs.Bytes.{table}
+use Rattle.vecfp.proofs.Alu.{results-forced, results-made}
+use borrow.Author.Rules.{rules}
+use Rattle.vecfp.proofs.results32.Goals as goal
+
+pub returns-then-vecfp_overrides : goal.returns-then-vecfp_overrides
+unfolding table
+returns-then-vecfp_overrides c =
+    let a = c.args in
+    results-forced binary32 a.x.now a.y.now a.z.now a.generation a.op c.vecfp_overrides.ensures c.if-vecfp_overrides.true refl
+
+pub returns : goal.returns
+returns c =
+    let a = c.args in
+    results-made binary32 a.x.now a.y.now a.z.now a.generation a.op c.vecfp_overrides.ensures c.alu_mode.result
+    c.if-vecfp_overrides.false c.alu_mode.ensures.0 c.by_mode32.ensures

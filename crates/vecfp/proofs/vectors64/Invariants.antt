@@ -1,0 +1,12 @@
+use mathlib.Core.Path.{sym, ◌∙◌, subst}
+use Prim.Native.Nat.{ℕ, ◌<◌, ◌-◌}
+use native.Mathlib.Omega.{arith}
+use borrow.Author.Rules.{rules}
+use Rattle.vecfp.proofs.VectorsLoop.{Done, done_none, done_more, done_all}
+use Rattle.vecfp.proofs.vectors64.Given as goal
+
+abbrev pub invariant-loop-v : goal.invariant-loop-v
+invariant-loop-v l = Done l.generation l.op l.initial.state l.vectors l.v l.state
+
+abbrev pub decreases-loop-v : goal.decreases-loop-v
+decreases-loop-v l = l.vectors - l.v

@@ -1,0 +1,19 @@
+use Prim.Native.Nat.{◌+◌, ◌*◌}
+use mathlib.Core.Path.{◌∙◌}
+use mathlib.Core.Bool.{false, cond}
+use native.Mathlib.Omega.{arith}
+use Rattle.isa.specs.Vecfp as Vecfp
+use Rattle.operand.proofs.Fields.{bits-lt}
+use borrow.Author.Rules.{rules}
+use Rattle.vecfp.proofs.x_side.Goals as goal
+
+pub offset-requires : goal.offset-requires
+offset-requires c =
+    (omega (arith, c.field.ensures, bits-lt c.args.op 10 18), c.requires)
+
+pub returns : goal.returns
+unfolding Vecfp.x_offset
+returns c =
+    let a = c.args in
+    let at = c.offset.ensures ∙ (λ i. c.field.ensures i + cond (c.broadcasts-same.ensures i) 0 (64 * a.v)) in
+    λ i. record { y = false; c = c.vecfp_overrides.ensures i; c = at i; lane = c.x_lane.ensures i }

@@ -1,0 +1,13 @@
+use Rattle.std.proofs.Common.{◌+◌, ◌-◌, ◌*◌, ◌≤◌, false, get_or, pos, sym, refl, ◌∙◌, arith, to_z-of_z, w32, rules}
+use borrow.Author.Rules.{sfits_of}
+use Rattle.vecint.specs.Accumulation.{accumulate, lane_stored}
+use Rattle.state.proofs.Holds.{Bytes}
+use Rattle.state.proofs.Dealing.{Lanes, lanes-none, lanes-more, lanes_all}
+use Rattle.vecint.proofs.Bounds.{place_in, lane-at}
+use Rattle.vecint.proofs.alu_row16.Given as goal
+
+abbrev pub invariant-loop-l : goal.invariant-loop-l
+invariant-loop-l l = (l.l ≤ 32) × Lanes 2 32 refl l.row (λ l.l. get_or l.on (l.l * l.c + l.q) false) (λ l.l. accumulate false l.how l.terms (l.l * l.c + l.q)) l.initial.state l.l l.state × Bytes l.state
+
+abbrev pub decreases-loop-l : goal.decreases-loop-l
+decreases-loop-l l = 32 - l.l
