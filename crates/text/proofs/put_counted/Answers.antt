@@ -8,5 +8,5 @@ returns c =
     let a = c.args in
     let put_word = c.put_word-next in
     let put-decimal = c.put_decimal in
-    stored_counted a.out.now put_word.new.0 put-decimal.new.0 a.at put_word.result put-decimal.result a.word.now
+    stored_counted a.out.now put_word.new.out put-decimal.new.0 a.at put_word.result put-decimal.result a.word.now
     (digits a.n) put_word.ensures put-decimal.ensures.0 put-decimal.ensures.1

@@ -18,7 +18,7 @@ loop-i-preserved c =
     let put-hex8 = c.put_hex8 in (
       turn.invariant.0,
       omega arith,
-      hex-more a.out.now turn.out put-hex8.new.0 a.at turn.i (get_or a.bytes.now turn.i 0) a.bytes.now
+      hex-more a.out.now turn.out put-hex8.new.out a.at turn.i (get_or a.bytes.now turn.i 0) a.bytes.now
           (omega arith) refl turn.invariant.2 put-hex8.ensures,
     )
 

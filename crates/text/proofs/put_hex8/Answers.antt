@@ -9,5 +9,5 @@ returns c =
     let put8 = c.put8 in
     let hex-digit2 = c.hex_digit-2 in
     let put82 = c.put8-2 in
-    two-stored a.out.now put8.new.0 put82.new.0 a.at hex-digit.result hex-digit2.result a.b hex-digit.ensures
+    two-stored a.out.now put8.new.s put82.new.0 a.at hex-digit.result hex-digit2.result a.b hex-digit.ensures
     hex-digit2.ensures put8.ensures put82.ensures

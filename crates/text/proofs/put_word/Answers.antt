@@ -8,7 +8,7 @@ use Rattle.text.proofs.Pieces.{word_more, word-all}
 use Rattle.text.proofs.put_word.Goals as goal
 
 pub returns-then-at-word : goal.returns-then-at-word
-returns-then-at-word c = (c.Store-word.ensures, refl)
+returns-then-at-word c = (c.store_word.ensures, refl)
 
 pub loop-i-init : goal.loop-i-init
 loop-i-init c = (refl, omega arith, refl)
@@ -18,7 +18,7 @@ loop-i-preserved c =
     let a = c.args in (
       c.loop-i.invariant.0,
       omega arith,
-      word_more a.out.now c.loop-i.out c.put8.new.0 a.at c.loop-i.i (get_or a.word.now c.loop-i.i 0) a.word.now
+      word_more a.out.now c.loop-i.out c.put8.new.s a.at c.loop-i.i (get_or a.word.now c.loop-i.i 0) a.word.now
           (omega arith) refl c.loop-i.invariant.2 c.put8.ensures,
     )
 

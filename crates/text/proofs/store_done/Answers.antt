@@ -11,7 +11,7 @@ returns c =
     let front = c.store_decimal-next in
     let digits = c.store_decimal-next-2 in
     let answer =
-    done-stored front.new.0 c.store_word-2.new.0 digits.new.0 front.result (front.result + 6) digits.result
+    done-stored front.new.out c.store_word-2.new.0 digits.new.0 front.result (front.result + 6) digits.result
     (Done a.bytes) a.bytes refl (c.store_word-2.ensures, refl) digits.ensures.0 digits.ensures.1
     in
     step_stored a.out.now c.Store-word.new.0 front.new.0 digits.new.0 c.store_word-3.new.0
