@@ -15,12 +15,12 @@ returns-then-not-yon-j c =
 pub returns-then-skipx : goal.returns-then-skipx
 returns-then-skipx c =
     let a = c.args in
-    same-term a.j a.p a.ts.now a.on.now a.skipz a.state.now a.yon.now a.skipx c.less_row.new.0
+    same-term a.j a.p a.ts.now a.on.now a.skipz a.state.now a.yon.now a.skipx c.less_row.new.state
     c.requires.0 (λ p. (c.slice-known.given p).fits) c.if-skipx.true
     (not-false (get_or a.yon.now a.j false) c.if-not-yon-j.false) c.less_row.ensures
 
 pub returns : goal.returns
 returns c =
     let a = c.args in
-    own-terms a.j a.p a.ts.now a.on.now a.skipz a.state.now a.yon.now a.skipx c.less_row-2.new.0
+    own-terms a.j a.p a.ts.now a.on.now a.skipz a.state.now a.yon.now a.skipx c.less_row-2.new.state
     c.if-skipx.false (not-false (get_or a.yon.now a.j false) c.if-not-yon-j.false) c.less_row-2.ensures

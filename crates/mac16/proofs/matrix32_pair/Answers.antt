@@ -21,5 +21,5 @@ pub returns : goal.returns
 returns c =
     c.pair32.ensures
     ∙ pick_true _ _ (eq-eqb (length c.args.state.now) 5120 c.requires.0)
-    ∙ ap (λ (y : ℤ). applied (run_sum 4 (c.args.j * 2) 2 (row_terms 4 32 (c.args.s % 32) (masked c.args.on.now c.args.xs.now) (replicate 32 y)) c.args.on.now c.args.keep) c.args.state.now) (to_z-of_z {w = w16} (sfits_of c.y.given))
+    ∙ ap (λ (y : ℤ). applied (run_sum 4 (c.args.j * 2) 2 (row_terms 4 32 (c.args.s % 32) (masked c.args.on.now c.args.xs.now) (replicate 32 y)) c.args.on.now c.args.keep) c.args.state.now) (to_z-of_z {w = w16} (sfits_of c.y-1.given))
     ∙ sym (pick_true _ _ (not-false (get_or c.args.yon.now c.args.j false) c.if-not-yon-j.false))
