@@ -10,7 +10,7 @@ returns-then-not-rows_differ c =
     let a = c.args in
     row_kept a.out.now a.at (row_line a.start.now a.state.now a.row)
     (line-none a.start.now a.state.now c.row_at-before.result c.row_at-after.result a.row c.requires.0 c.row_at-before.ensures
-    c.row_at-after.ensures c.rows_differ.result c.rows_differ.ensures (not-true c.rows_differ.result c.if-not-rows_differ.true))
+    c.row_at-after.ensures c.rows_differ.result c.rows_differ.ensures c.if-not-rows_differ.true)
 
 pub returns : goal.returns
 returns c =
@@ -18,7 +18,7 @@ returns c =
     row-printed a.out.now c.z_line.new.0 a.at c.z_line.result (z_line a.row c.row_at-after.result)
     (row_line a.start.now a.state.now a.row)
     (line-there a.start.now a.state.now c.row_at-before.result c.row_at-after.result a.row c.requires.0 c.row_at-before.ensures
-    c.row_at-after.ensures c.rows_differ.result c.rows_differ.ensures (not-false c.rows_differ.result c.if-not-rows_differ.false))
+    c.row_at-after.ensures c.rows_differ.result c.rows_differ.ensures c.if-not-rows_differ.false)
     (line-fits a.start.now a.state.now c.row_at-before.result c.row_at-after.result a.row c.requires.0 c.row_at-before.ensures
     c.row_at-after.ensures)
     c.z_line.ensures
