@@ -7,7 +7,7 @@ pub returns-in-Operand : goal.returns-in-Operand
 returns-in-Operand c = ap (handed_back c.args.operand) (sym c.found.given.1 ∙ c.normal-found.ensures)
 
 pub returns-in-NoOp : goal.returns-in-NoOp
-returns-in-NoOp c = ap (handed_back c.args.operand) (sym c.enum_told.given.1 ∙ c.normal-found.ensures)
+returns-in-NoOp c = ap (handed_back c.args.operand) (sym c.enum_told-1.given.1 ∙ c.normal-found.ensures)
 
 pub returns-in-Refused : goal.returns-in-Refused
 returns-in-Refused c = ap (handed_back c.args.operand) (sym c.enum_told-in-Refused-1.given.1 ∙ c.normal-found.ensures)

@@ -6,7 +6,7 @@ use Rattle.amx.proofs.step.Goals as goal
 
 pub done-requires : goal.done-requires
 done-requires c =
-    let told = c.enum_told.given in
+    let told = c.enum_told-1.given in
     let a = c.args in
     step-needs a.instruction a.generation a.operand a.serial a.state.now c.due-count.result c.due-count.ensures
     c.answered-answer.result (answer.Done told.0.0) c.answered-answer.ensures told.1 refl
@@ -20,7 +20,7 @@ raise-requires c =
 
 pub returns-in-Done : goal.returns-in-Done
 returns-in-Done c =
-    let told = c.enum_told.given in
+    let told = c.enum_told-1.given in
     let a = c.args in
     step-done a.instruction a.generation a.operand a.serial a.state.now c.due-count.result c.due-count.ensures
     c.answered-answer.result (answer.Done told.0.0) c.answered-answer.ensures told.1 told.0.0 c.done.result c.done.new.0

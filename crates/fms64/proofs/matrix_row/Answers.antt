@@ -16,7 +16,7 @@ pub returns-then-skipx : goal.returns-then-skipx
 returns-then-skipx c =
     let a = c.args in
     same-term a.j a.p a.ts.now a.on.now a.skipz a.state.now a.yon.now a.skipx c.less_row.new.state
-    c.requires.0 (λ p. (c.slice-known.given p).fits) c.if-skipx.true
+    c.requires.0 (λ p. (c.slice_known-1.given p).fits) c.if-skipx.true
     c.if-not-yon-j.false c.less_row.ensures
 
 pub returns : goal.returns

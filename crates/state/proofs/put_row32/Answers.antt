@@ -27,7 +27,7 @@ loop-l-preserved c =
     let a = c.args in
     stored_more 4 16 refl a.row a.values.now a.on.now a.state.now c.words32-zs.result
     (row_read 4 16 refl a.state.now c.straight-bytes.result c.words32-zs.result a.row c.straight-bytes.ensures c.words32-zs.ensures)
-    c.loop-l.l c.chosen32.result c.loop-l.state c.store32.new.state (λ p. (c.slice-known.given p).fits)
+    c.loop-l.l c.chosen32.result c.loop-l.state c.store32.new.state (λ p. (c.slice_known-1.given p).fits)
     (λ p. (c.slice_known-in-loop-l-1.given p).fits) (omega arith) c.loop-l-test.true c.loop-l.invariant c.chosen32.ensures c.store32.ensures
 
 pub shape_of-state : goal.shape_of-state

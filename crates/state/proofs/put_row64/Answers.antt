@@ -27,7 +27,7 @@ loop-l-preserved c =
     let a = c.args in
     stored_more 8 8 refl a.row a.values.now a.on.now a.state.now c.words64-zs.result
     (row_read 8 8 refl a.state.now c.straight-bytes.result c.words64-zs.result a.row c.straight-bytes.ensures c.words64-zs.ensures)
-    c.loop-l.l c.chosen64.result c.loop-l.state c.store64.new.state (λ p. (c.slice-known.given p).fits)
+    c.loop-l.l c.chosen64.result c.loop-l.state c.store64.new.state (λ p. (c.slice_known-1.given p).fits)
     (λ p. (c.slice_known-in-loop-l-1.given p).fits) (omega arith) c.loop-l-test.true c.loop-l.invariant c.chosen64.ensures c.store64.ensures
 
 pub shape_of-state : goal.shape_of-state

@@ -19,7 +19,7 @@ loop-i-preserved c = (
   omega arith,
   run_more (run_sum 2 c.args.row 1 c.args.values.now c.args.on.now c.args.keep) 32 refl c.args.row 1 c.args.state.now (omega arith) c.loop-i.i (omega arith) _ c.loop-i.state c.sum_lane16.new.state c.loop-i.invariant.1
       c.sum_lane16.ensures
-      (summed 2 c.args.row 1 c.args.values.now c.args.on.now c.args.keep 32 refl c.args.state.now (λ p. (c.slice-known.given p).fits) c.loop-i.i _ (omega arith)
+      (summed 2 c.args.row 1 c.args.values.now c.args.on.now c.args.keep 32 refl c.args.state.now (λ p. (c.slice_known-1.given p).fits) c.loop-i.i _ (omega arith)
       (run-reads (run_sum 2 c.args.row 1 c.args.values.now c.args.on.now c.args.keep) 32 refl c.args.row 1 c.args.state.now (omega arith) c.loop-i.i (omega arith) c.loop-i.state c.loop-i.invariant.1)),
   λ p. (c.slice_known-in-loop-i-1.given p).fits,
 )
