@@ -23,7 +23,7 @@ returns-in-Done c =
     let told = c.enum_told-1.given in
     let a = c.args in
     step-done a.instruction a.generation a.operand a.serial a.state.now c.due-count.result c.due-count.ensures
-    c.answered-answer.result (answer.Done told.0.0) c.answered-answer.ensures told.1 told.0.0 c.done.result c.done.new.0
+    c.answered-answer.result (answer.Done told.0.0) c.answered-answer.ensures told.1 told.0.0 c.done.result c.done.new.state
     refl c.done.ensures.0 c.done.ensures.1
 
 pub returns-in-NoOp : goal.returns-in-NoOp
@@ -31,7 +31,7 @@ returns-in-NoOp c =
     let told = c.answer.given in
     let a = c.args in
     step-no-op a.instruction a.generation a.operand a.serial a.state.now c.due-count.result c.due-count.ensures
-    c.answered-answer.result (answer.NoOp told.0.0) c.answered-answer.ensures told.1 told.0.0 c.raise.new.0
+    c.answered-answer.result (answer.NoOp told.0.0) c.answered-answer.ensures told.1 told.0.0 c.raise.new.state
     refl c.raise.ensures
 
 pub returns-in-Refused : goal.returns-in-Refused
