@@ -15,7 +15,7 @@ returns-then-not-rows_differ c =
 pub returns : goal.returns
 returns c =
     let a = c.args in
-    row-printed a.out.now c.z_line.new.0 a.at c.z_line.result (z_line a.row c.row_at-after.result)
+    row-printed a.out.now c.z_line.new.out a.at c.z_line.result (z_line a.row c.row_at-after.result)
     (row_line a.start.now a.state.now a.row)
     (line-there a.start.now a.state.now c.row_at-before.result c.row_at-after.result a.row c.requires.0 c.row_at-before.ensures
     c.row_at-after.ensures c.rows_differ.result c.rows_differ.ensures c.if-not-rows_differ.false)

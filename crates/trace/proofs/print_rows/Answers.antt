@@ -18,7 +18,7 @@ loop-row-preserved c =
     let a = c.args in (
       omega arith,
       omega (arith, c.print_row-at.ensures.short, c.loop-row.invariant.1),
-      rows_more a.start.now a.state.now a.out.now c.loop-row.out c.print_row-at.new.1.1.0 c.loop-row.row
+      rows_more a.start.now a.state.now a.out.now c.loop-row.out c.print_row-at.new.out.1.0 c.loop-row.row
           c.loop-row.at c.print_row-at.result c.loop-row.invariant.2 c.print_row-at.ensures.out_after,
     )
 
