@@ -12,5 +12,5 @@ pub returns : goal.returns
 returns c =
     let a = c.args in
     ends-here a.registers.now a.n a.state.now a.behind.now a.out.now c.if-behind-gt0.false
-    c.print_rows-at.new.out.1.0 c.steps_line.new.out c.print_rows-at.result c.steps_line.result
+    c.print_rows-at.new.out c.steps_line.new.out c.print_rows-at.result c.steps_line.result
     c.print_rows-at.ensures.out_after c.steps_line.ensures
