@@ -28,5 +28,3 @@ returns c =
     c.z_line.ensures
     in
     record { out_after = whole.0; short = whole.1 }
-    in
-    record { out_after = whole.0; short = whole.1 }
