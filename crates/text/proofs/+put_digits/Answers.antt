@@ -13,7 +13,7 @@ returns t c =
     let front = c.put_digits-next in
     let last = c.put-2 in
     let whole =
-        stored_many a.out.now front.new.out last.new.out a.at front.result a.n last.result
-        c.if-n-lt10.false c.ranges.n.fits front.ensures.stored last.ensures
+    stored_many a.out.now front.new.out last.new.out a.at front.result a.n last.result
+    c.if-n-lt10.false c.ranges.n.fits front.ensures.stored last.ensures
     in
     record { stored = whole.0; short = whole.1 }

@@ -8,8 +8,8 @@ returns-in-Done c =
     let word = c.put_word-next in
     let digits = c.put_decimal in
     let whole =
-        done-stored a.out.now word.new.out digits.new.out a.at word.result digits.result a.answer arm.bytes arm.is
-        word.ensures digits.ensures.stored digits.ensures.short
+    done-stored a.out.now word.new.out digits.new.out a.at word.result digits.result a.answer arm.bytes arm.is
+    word.ensures digits.ensures.stored digits.ensures.short
     in
     record { stored = whole.0; short = whole.1 }
 
@@ -21,8 +21,8 @@ returns-in-NoOp c =
     let digits = c.put_decimal-in-NoOp in
     let number = c.reason_number in
     let whole =
-        no-op-stored a.out.now word.new.out digits.new.out a.at word.result digits.result a.answer arm.r number.result arm.is
-        number.ensures.0 word.ensures digits.ensures.stored digits.ensures.short
+    no-op-stored a.out.now word.new.out digits.new.out a.at word.result digits.result a.answer arm.r number.result arm.is
+    number.ensures.0 word.ensures digits.ensures.stored digits.ensures.short
     in
     record { stored = whole.0; short = whole.1 }
 
@@ -34,7 +34,7 @@ returns-in-Refused c =
     let digits = c.put_decimal-in-Refused in
     let number = c.refusal_number in
     let whole =
-        refused-stored a.out.now word.new.out digits.new.out a.at word.result digits.result a.answer arm.r number.result arm.is
-        number.ensures.0 word.ensures digits.ensures.stored digits.ensures.short
+    refused-stored a.out.now word.new.out digits.new.out a.at word.result digits.result a.answer arm.r number.result arm.is
+    number.ensures.0 word.ensures digits.ensures.stored digits.ensures.short
     in
     record { stored = whole.0; short = whole.1 }
