@@ -1,18 +1,14 @@
 -- Digits: of the whole part of n / 2 ^ j a format keeps `prec` and drops the rest. What is kept has its leading digit, and fits.
 -- Assumes nothing.
-use mathlib.Core.Path.{◌≡◌, refl, sym, subst}
-use mathlib.Core.Bool.{Bool, true, false}
-use mathlib.Core.Logic.{◌⊎◌, inl, inr}
+use mathlib.Core.Path.{sym, subst}
 use Prim.Native.Nat.{ℕ, ◌+◌, ◌-◌, ◌*◌, ◌/◌, ◌%◌, ◌^◌, ◌≤◌, ◌<◌, compare}
 use native.Mathlib.Nat.{le_trans, le_of_eq, le-div_iff_mul-le}
 use native.Mathlib.Omega.{arith}
-use lib.Dec.{ltb}
 use lib.Pow.{pow-add, pow_pos, shr-shr}
 use lib.Ieee.{Format, prec, hid, size}
 use lib.Ieee.Digits.{size_reaches}
 use lib.Ieee.Fits.{kept-lt, nearest-le, two, two-le_pos}
 use lib.Ieee.Nearest.{nearest-ge}
-use borrow.Author.Tests.{ltb-true, ltb-false}
 use Rattle.float.specs.Floats.{closest}
 
 -- how many digits of the whole part of n / 2 ^ j are dropped

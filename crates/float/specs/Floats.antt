@@ -4,7 +4,7 @@
 -- 2 ^ -1074), the weights `hid` of the exponent's field and `top` of the sign, and the field `ones` of infinities and NaNs; besides `size`, how
 -- many binary digits a number has, and `nearest`, a quotient or the next number up, by the remainder.
 -- Assumes nothing.
-use Rattle.std.specs.Prelude.{Bool, true, false, cond, not, ◌&&◌, ◌||◌, leb, ltb, eqb}
+use Rattle.std.specs.Prelude.{Bool, false, cond, not, ◌&&◌, ◌||◌, leb, ltb, eqb}
 use Rattle.std.specs.Bool.{beq}
 use Prim.Native.Nat.{ℕ, zero, suc, ◌+◌, ◌-◌, ◌*◌, ◌/◌, ◌%◌, ◌^◌, min, compare}
 use Rattle.std.specs.Float.{Format}

@@ -1,4 +1,3 @@
-use borrow.Author.Rules.{rules}
 use lib.Ieee.{binary32}
 use Rattle.float.proofs.Ops.{added_is}
 use Rattle.float.proofs.add32.Goals as goal

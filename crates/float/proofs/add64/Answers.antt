@@ -1,4 +1,3 @@
-use borrow.Author.Rules.{rules}
 use lib.Ieee.{binary64}
 use Rattle.float.proofs.Ops.{added_is}
 use Rattle.float.proofs.add64.Goals as goal

@@ -1,4 +1,3 @@
-use borrow.Author.Rules.{rules}
 use lib.Ieee.{binary64}
 use Rattle.float.proofs.Ops.{multiplied-is}
 use Rattle.float.proofs.mul64.Goals as goal

@@ -1,4 +1,3 @@
-use borrow.Author.Rules.{rules}
 use lib.Ieee.{binary32}
 use Rattle.float.proofs.Ops.{negated-high, negated-low}
 use Rattle.float.proofs.neg32.Goals as goal

@@ -1,4 +1,3 @@
-use borrow.Author.Rules.{rules}
 use lib.Ieee.{binary64}
 use Rattle.float.proofs.Ops.{negated-high, negated-low}
 use Rattle.float.proofs.neg64.Goals as goal

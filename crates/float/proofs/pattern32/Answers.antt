@@ -1,5 +1,4 @@
 use mathlib.Core.Path.{sym, ap, ◌∙◌}
-use borrow.Author.Rules.{rules}
 use lib.Ieee.{binary32, to_bits}
 use Rattle.float.proofs.Nans.{differs, equals_itself, default32}
 use Rattle.float.proofs.pattern32.Goals as goal

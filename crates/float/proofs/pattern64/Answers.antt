@@ -1,5 +1,4 @@
 use mathlib.Core.Path.{sym, ap, ◌∙◌}
-use borrow.Author.Rules.{rules}
 use lib.Ieee.{binary64, to_bits}
 use Rattle.float.proofs.Nans.{differs, equals_itself, default64}
 use Rattle.float.proofs.pattern64.Goals as goal

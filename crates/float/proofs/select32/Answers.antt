@@ -1,5 +1,4 @@
 use mathlib.Core.Bool.{true, false}
-use borrow.Author.Rules.{rules}
 use lib.Ieee.{binary32}
 use Rattle.float.proofs.Ops.{selected-is}
 use Rattle.float.proofs.select32.Goals as goal

@@ -1,4 +1,3 @@
-use borrow.Author.Rules.{rules}
 use lib.Ieee.{binary32}
 use Rattle.float.proofs.Ops.{subtracted-is}
 use Rattle.float.proofs.sub32.Goals as goal

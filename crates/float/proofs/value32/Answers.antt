@@ -1,5 +1,4 @@
 use mathlib.Core.Path.{sym, ◌∙◌}
-use borrow.Author.Rules.{rules}
 use lib.Ieee.{binary32}
 use Rattle.float.proofs.Nans.{read-nan, read_number, made-nan}
 use Rattle.float.proofs.value32.Goals as goal

@@ -1,6 +1,6 @@
 use Rattle.number.proofs.Modular.{wrap-add}
 use Rattle.number.specs.Integers.{signed}
-use Rattle.std.proofs.Common.{ℕ, ◌+◌, ◌%◌, ◌^◌, sym, ap, ◌∙◌, ap₂, pow_pos, to_z-of_z, rules}
+use Rattle.std.proofs.Common.{ℕ, ◌+◌, ◌%◌, ◌^◌, sym, ap, ◌∙◌, ap₂, pow_pos, to_z-of_z}
 use borrow.Author.Rules.{sfits_of}
 use mir.Syntax.{w64}
 use Rattle.number.proofs.added.Goals as goal

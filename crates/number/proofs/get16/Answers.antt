@@ -1,6 +1,6 @@
 use Rattle.number.proofs.Slice.{number_past, two_bytes}
 use Rattle.number.specs.Bytes.{byte_at}
-use Rattle.std.proofs.Common.{sym, refl, ◌∙◌, rules}
+use Rattle.std.proofs.Common.{sym, refl, ◌∙◌}
 use Rattle.number.proofs.get16.Goals as goal
 
 pub returns-then-s-at : goal.returns-then-s-at

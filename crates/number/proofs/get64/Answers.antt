@@ -1,6 +1,6 @@
 use Rattle.number.proofs.Slice.{number_past, short_half, two-halves}
 use Rattle.number.specs.Bytes.{byte_at}
-use Rattle.std.proofs.Common.{sym, ◌∙◌, arith, rules}
+use Rattle.std.proofs.Common.{sym, ◌∙◌, arith}
 use Rattle.number.proofs.get64.Goals as goal
 
 pub returns-then-s-at : goal.returns-then-s-at

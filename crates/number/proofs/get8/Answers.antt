@@ -1,4 +1,4 @@
-use Rattle.std.proofs.Common.{sym, rules}
+use Rattle.std.proofs.Common.{sym}
 use Rattle.number.proofs.Slice.{byte_past}
 use Rattle.number.proofs.get8.Goals as goal
 

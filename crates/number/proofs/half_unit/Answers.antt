@@ -1,6 +1,6 @@
 use Rattle.number.proofs.Range.{half-unit_is}
 use Rattle.number.specs.Integers.{half_unit}
-use Rattle.std.proofs.Common.{◌%◌, sym, ap, arith, rules}
+use Rattle.std.proofs.Common.{◌%◌, sym, ap, arith}
 use Rattle.number.proofs.half_unit.Goals as goal
 
 pub returns-then-t-eq0 : goal.returns-then-t-eq0

@@ -1,6 +1,6 @@
 use Rattle.number.proofs.Modular.{wrap-negative}
 use Rattle.number.specs.Integers.{signed}
-use Rattle.std.proofs.Common.{ℕ, ◌+◌, ◌%◌, ◌^◌, sym, ap, ◌∙◌, arith, pow_pos, to_z-of_z, rules}
+use Rattle.std.proofs.Common.{ℕ, ◌+◌, ◌%◌, ◌^◌, sym, ap, ◌∙◌, arith, pow_pos, to_z-of_z}
 use borrow.Author.Rules.{sfits_of}
 use mir.Syntax.{w64}
 use Rattle.number.proofs.negated.Goals as goal

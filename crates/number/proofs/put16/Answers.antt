@@ -1,6 +1,6 @@
 use Rattle.number.proofs.Slice.{sets-past, stores_2}
 use Rattle.number.specs.Bytes.{bytes_of}
-use Rattle.std.proofs.Common.{ℕ, ◌+◌, ◌/◌, List, set, sym, ap, ◌∙◌, arith, rules}
+use Rattle.std.proofs.Common.{ℕ, ◌+◌, ◌/◌, List, set, sym, ap, ◌∙◌, arith}
 use Rattle.number.proofs.put16.Goals as goal
 
 pub returns-then-s-at : goal.returns-then-s-at

@@ -1,7 +1,7 @@
 use Rattle.number.proofs.Slice.{sets-past, stores_halves}
 use Rattle.number.specs.Bytes.{bytes_of}
 use lib.Seq.{sets, length-sets}
-use Rattle.std.proofs.Common.{ℕ, ◌+◌, ◌/◌, ◌%◌, List, sym, ap, ◌∙◌, arith, rules}
+use Rattle.std.proofs.Common.{ℕ, ◌+◌, ◌/◌, ◌%◌, List, sym, ap, ◌∙◌, arith}
 use Rattle.number.proofs.put32.Goals as goal
 
 pub returns-then-s-at : goal.returns-then-s-at

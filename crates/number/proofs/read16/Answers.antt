@@ -1,6 +1,6 @@
 use Rattle.number.proofs.Range.{widened}
 use Rattle.number.proofs.Tests.{pick_true, pick_false}
-use Rattle.std.proofs.Common.{sym, ◌∙◌, arith, to_z-of_z, w16, w32, rules}
+use Rattle.std.proofs.Common.{sym, ◌∙◌, arith, to_z-of_z, w16, w32}
 use mir.Facts.{to_z_pos, sfits_widen}
 use borrow.Author.Rules.{sfits_of}
 use Rattle.number.proofs.read16.Goals as goal

@@ -1,5 +1,5 @@
 use lib.Signed.{shr_z, mag_shr}
-use Rattle.std.proofs.Common.{◌%◌, ◌^◌, refl, arith, to_z-of_z, w64, SFits, rules}
+use Rattle.std.proofs.Common.{◌%◌, ◌^◌, refl, arith, to_z-of_z, w64, SFits}
 use Rattle.number.proofs.shifted.Goals as goal
 
 pub returns : goal.returns

@@ -1,5 +1,5 @@
 use Rattle.number.proofs.Range.{read-high, signed-fits, signed_low}
-use Rattle.std.proofs.Common.{sym, ◌∙◌, arith, to_z-of_z, w16, w32, rules}
+use Rattle.std.proofs.Common.{sym, ◌∙◌, arith, to_z-of_z, w16, w32}
 use mir.Facts.{to_z_pos, sfits_widen}
 use Rattle.number.proofs.signed16.Goals as goal
 

@@ -1,5 +1,5 @@
 use Rattle.number.proofs.Range.{read-high, signed-fits, signed_low}
-use Rattle.std.proofs.Common.{sym, ◌∙◌, arith, to_z-of_z, w32, w64, rules}
+use Rattle.std.proofs.Common.{sym, ◌∙◌, arith, to_z-of_z, w32, w64}
 use mir.Facts.{to_z_pos, sfits_widen}
 use Rattle.number.proofs.signed32.Goals as goal
 

@@ -1,5 +1,5 @@
 use Rattle.number.proofs.Range.{signed_low, signed-fits, read-top}
-use Rattle.std.proofs.Common.{◌-◌, sym, ◌∙◌, arith, to_z-of_z, w64, rules}
+use Rattle.std.proofs.Common.{◌-◌, sym, ◌∙◌, arith, to_z-of_z, w64}
 use mir.Facts.{to_z_pos}
 use Rattle.number.proofs.signed64.Goals as goal
 

@@ -1,5 +1,5 @@
 use Rattle.number.proofs.Range.{read-high, signed-fits, signed_low}
-use Rattle.std.proofs.Common.{sym, ◌∙◌, arith, to_z-of_z, w16, rules}
+use Rattle.std.proofs.Common.{sym, ◌∙◌, arith, to_z-of_z, w16}
 use mir.Facts.{to_z_pos}
 use Rattle.number.proofs.signed8.Goals as goal
 

@@ -1,4 +1,4 @@
-use Rattle.std.proofs.Common.{ℕ, ◌%◌, ◌^◌, ap, ◌∙◌, to_z-of_z, rules}
+use Rattle.std.proofs.Common.{ℕ, ◌%◌, ◌^◌, ap, ◌∙◌, to_z-of_z}
 use Rattle.number.proofs.Range.{wrap-low}
 use Rattle.number.proofs.wrapped32.Goals as goal
 
