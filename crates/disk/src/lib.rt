@@ -13,6 +13,7 @@ ghost use Rattle.disk.specs.Got.{Within, HeadOf, HeadRead, Looked, Checks};
 ghost use Rattle.disk.specs.Shown.{Holds, RunSays, Wrote, Turned, Alone};
 
 use std::fmt;
+use std::fmt::Write;
 use std::fs::File;
 use std::io;
 use std::io::{ErrorKind, Read, Seek, SeekFrom};
@@ -122,13 +123,17 @@ fn go_to(source: &mut Source, at: u64) -> bool {
 
 // ---- what goes wrong
 
-// An error's words, as they are written.
+// What std puts between the words of an error of the system and its number.
+const BEFORE_NUMBER: &str = " (os error ";
+
+// An error's words, as they are printed.
+#[derive(Drop)]
 struct Words {
     bytes: [u8; 320],
     length: usize,
 }
 
-impl fmt::Write for Words {
+impl Write for Words {
     fn write_str(&mut self, s: &str) -> fmt::Result {
         for b in s.as_bytes() {
             if self.length >= self.bytes.len() {
@@ -141,13 +146,30 @@ impl fmt::Write for Words {
     }
 }
 
-// Writes a line to standard error: what failed, a colon and why, as the system words it. std puts the number of the system's error behind its words.
+// Writes an error to standard error in the system's words, without its number.
+fn say_reason(rt: &HostRuntime, words: &[u8]) {
+    let reason = match std::str::from_utf8(words) {
+        Ok(text) => match text.split_once(BEFORE_NUMBER) {
+            Some((reason, _)) => reason.as_bytes(),
+            None => words,
+        },
+        Err(_) => words,
+    };
+    let _ = rt.stderr().write_all(reason);
+}
+
+// Writes a line to standard error: what failed, a colon and why.
 pub fn say_failed(rt: &HostRuntime, what: &[u8], error: io::Error) {
-    let err = rt.stderr();
-    let _ = err.write_all(what);
-    let _ = err.write_all(b": ");
-    let _ = err.print(error);
-    let _ = err.write_all(b"\n");
+    let mut words = Words {
+        bytes: [0; 320],
+        length: 0,
+    };
+    let _ = write!(words, "{error}");
+    let _ = rt.stderr().write_all(what);
+    let _ = rt.stderr().write_all(b": ");
+    let length = words.length.min(words.bytes.len());
+    say_reason(rt, &words.bytes[..length]);
+    let _ = rt.stderr().write_all(b"\n");
 }
 
 // ---- writing
