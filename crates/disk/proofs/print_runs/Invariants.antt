@@ -1,14 +1,10 @@
-use mathlib.Core.Path.{◌≡◌}
 use Prim.Native.Nat.{◌-◌, ◌*◌, ◌≤◌}
-use lib.ListN.{length}
 use Rattle.trace.specs.Runs.{room_length}
 use Rattle.trace.specs.Reading.{Told}
 use Rattle.disk.proofs.print_runs.Given as goal
 
 abbrev pub invariant-loop-i : goal.invariant-loop-i
-invariant-loop-i l =
-    (l.i ≤ l.n) × Told l.head.now l.n l.i l.state l.at × (l.at ≤ room_length * l.i) × (length l.state ≡ length l.initial.state)
-    × (length l.out ≡ length l.initial.out) × (length l.part ≡ 32768)
+invariant-loop-i l = (l.i ≤ l.n) × Told l.head l.n l.i l.state l.at × (l.at ≤ room_length * l.i)
 
 abbrev pub decreases-loop-i : goal.decreases-loop-i
 decreases-loop-i l = l.n - l.i
