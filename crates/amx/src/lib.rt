@@ -1,4 +1,4 @@
-// The unit: one step of any instruction, the normal operand, and what a host in C or Rust calls.
+// The unit: one step of any instruction, the normal operand, and what a host calls, which crates/amx_c exports.
 #![tactic(auto)]
 
 ghost use Rattle.std.specs.Prelude.{◌≡◌, cond, ◌+◌, ◌<◌, eqb, length};
@@ -94,8 +94,7 @@ pub fn normal(instruction: u64, generation: u64, operand: u64) -> isa::Normal
 
 // ---- for a host: numbers and lent bytes
 
-#[unsafe(no_mangle)]
-pub extern "C" fn amx_step(
+pub fn amx_step(
     state: &mut [u8],
     instruction: u64,
     generation: u64,
@@ -108,16 +107,14 @@ pub extern "C" fn amx_step(
     isa::host_number(step(state, instruction, generation, operand, serial))
 }
 
-#[unsafe(no_mangle)]
-pub extern "C" fn amx_normal_answer(instruction: u64, generation: u64, operand: u64) -> u64
+pub fn amx_normal_answer(instruction: u64, generation: u64, operand: u64) -> u64
     ensures { result ≡ normal_number (normal_of (Calls.call instruction generation operand)) }
 {
     isa::normal_number(normal(instruction, generation, operand))
 }
 
 // The operand as given where the step isn't done.
-#[unsafe(no_mangle)]
-pub extern "C" fn amx_normal_operand(instruction: u64, generation: u64, operand: u64) -> u64
+pub fn amx_normal_operand(instruction: u64, generation: u64, operand: u64) -> u64
     ensures { result ≡ handed_back operand (normal_of (Calls.call instruction generation operand)) }
 {
     let found = normal(instruction, generation, operand);
@@ -129,8 +126,7 @@ pub extern "C" fn amx_normal_operand(instruction: u64, generation: u64, operand:
 }
 
 // The third section of a trace that was stopped after so many steps, and its length; 0 where nothing is stored.
-#[unsafe(no_mangle)]
-pub extern "C" fn amx_checkpoint(state: &[u8], consumed: u64, out: &mut [u8]) -> u64
+pub fn amx_checkpoint(state: &[u8], consumed: u64, out: &mut [u8]) -> u64
     ensures { (out.new ≡ checkpoint_in out.old consumed state.now)
         × (result ≡ stored_bytes out.old consumed state.now) }
 {

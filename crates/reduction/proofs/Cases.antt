@@ -80,11 +80,11 @@ module _ (z : ℤ) (f : SFits w32 z) where
 -- ---- the ends of the range
 
 module _ (below : Bool) (b : ℕ) where
-  pub low_unsigned : not below ≡ true → pos 0 ≡ low_end below b
-  low_unsigned t = sym (pick_false _ _ (not-true below t))
+  pub low_unsigned : below ≡ false → pos 0 ≡ low_end below b
+  low_unsigned t = sym (pick_false _ _ t)
 
-  pub low_signed : (w : ℕ) → not below ≡ false → width_in b ≡ w → negsuc (span w / 2 - 1) ≡ low_end below b
-  low_signed w t e = sym (pick_true _ _ (not-false below t) ∙ ap (λ (x : ℕ). negsuc (span x / 2 - 1)) e)
+  pub low_signed : (w : ℕ) → below ≡ true → width_in b ≡ w → negsuc (span w / 2 - 1) ≡ low_end below b
+  low_signed w t e = sym (pick_true _ _ t ∙ ap (λ (x : ℕ). negsuc (span x / 2 - 1)) e)
 
 pub high_at : (below : Bool) (b w : ℕ) → width_in b ≡ w → pos (cond below (span w / 2) (span w) - 1) ≡ high_end below b
 high_at below b w e = ap (λ (x : ℕ). pos (cond below (span x / 2) (span x) - 1)) (sym e)

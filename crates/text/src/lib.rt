@@ -57,7 +57,7 @@ fn store_pair(out: &mut [u8], at: usize, n: u32) -> usize
 
 fn store_below_100(out: &mut [u8], at: usize, n: u32) -> usize
     requires { (n < 100) × (at + 2 ≤ length out.old) }
-    ensures out_after { (out.new ≡ sets out.old at (digits n)) × (result ≡ at + length (digits n)) }
+    ensures stored { (out.new ≡ sets out.old at (digits n)) × (result ≡ at + length (digits n)) }
     ensures short { result ≤ at + 2 }
 {
     if n < 10 {
@@ -70,7 +70,7 @@ fn store_below_100(out: &mut [u8], at: usize, n: u32) -> usize
 // The digits of n / 100, where there are any, and then the last two.
 fn store_below_10000(out: &mut [u8], at: usize, n: u32) -> usize
     requires { (n < 10000) × (at + 4 ≤ length out.old) }
-    ensures out_after { (out.new ≡ sets out.old at (digits n)) × (result ≡ at + length (digits n)) }
+    ensures stored { (out.new ≡ sets out.old at (digits n)) × (result ≡ at + length (digits n)) }
     ensures short { result ≤ at + 4 }
 {
     if n < 100 {
@@ -83,7 +83,7 @@ fn store_below_10000(out: &mut [u8], at: usize, n: u32) -> usize
 // The digits of n / 10, where there are any, and then the last one.
 fn put_digits(out: &mut [u8], at: usize, n: u64) -> usize
     requires { at < 2 ^ 61 }
-    ensures out_after { (out.new ≡ sets out.old at (digits n)) × (result ≡ at + length (digits n)) }
+    ensures stored { (out.new ≡ sets out.old at (digits n)) × (result ≡ at + length (digits n)) }
     ensures short { result ≤ at + 20 }
 {
     if n < 10 {
@@ -96,7 +96,7 @@ fn put_digits(out: &mut [u8], at: usize, n: u64) -> usize
 // A number below a million, as steps have, by two digits at a time; another as put_digits does.
 fn store_decimal(out: &mut [u8], at: usize, n: u64) -> usize
     requires { (at < 2 ^ 61) × (at + 6 ≤ length out.old) }
-    ensures out_after { (out.new ≡ sets out.old at (digits n)) × (result ≡ at + length (digits n)) }
+    ensures stored { (out.new ≡ sets out.old at (digits n)) × (result ≡ at + length (digits n)) }
     ensures short { result ≤ at + 20 }
 {
     if n < 10_000 {
@@ -111,7 +111,7 @@ fn store_decimal(out: &mut [u8], at: usize, n: u64) -> usize
 
 fn put_decimal(out: &mut [u8], at: usize, n: u64) -> usize
     requires { at < 2 ^ 61 }
-    ensures out_after { (out.new ≡ sets out.old at (digits n)) × (result ≡ at + length (digits n)) }
+    ensures stored { (out.new ≡ sets out.old at (digits n)) × (result ≡ at + length (digits n)) }
     ensures short { result ≤ at + 20 }
 {
     if out.len() < at + 6 {
@@ -123,7 +123,7 @@ fn put_decimal(out: &mut [u8], at: usize, n: u64) -> usize
 // A word and a number.
 fn put_counted(out: &mut [u8], at: usize, word: &[u8], n: u64) -> usize
     requires { (at < 2 ^ 60) × (length word.now < 2 ^ 60) }
-    ensures out_after { (out.new ≡ sets out.old at (word.now ++ digits n)) × (result ≡ at + length (word.now ++ digits n)) }
+    ensures stored { (out.new ≡ sets out.old at (word.now ++ digits n)) × (result ≡ at + length (word.now ++ digits n)) }
     ensures short { result ≤ at + length word.now + 20 }
 {
     let next = put_word(out, at, word);
@@ -148,7 +148,7 @@ fn put_hex8(out: &mut [u8], at: usize, b: u8)
 
 fn put_hex(out: &mut [u8], at: usize, bytes: &[u8]) -> usize
     requires { (at < 2 ^ 60) × (length bytes.now ≤ 64) }
-    ensures out_after { (out.new ≡ sets out.old at (hex bytes.now)) × (result ≡ at + length (hex bytes.now)) }
+    ensures stored { (out.new ≡ sets out.old at (hex bytes.now)) × (result ≡ at + length (hex bytes.now)) }
     ensures short { result ≤ at + 128 }
 {
     for i in 0..bytes.len() {
@@ -162,7 +162,7 @@ fn put_hex(out: &mut [u8], at: usize, bytes: &[u8]) -> usize
 // A space and an answer. Each word stands at its own call, so that the compiler knows its length.
 fn put_answer(out: &mut [u8], at: usize, answer: isa::Answer) -> usize
     requires { at < 2 ^ 60 }
-    ensures out_after { (out.new ≡ sets out.old at (space ++ answer_text answer)) × (result ≡ at + length (space ++ answer_text answer)) }
+    ensures stored { (out.new ≡ sets out.old at (space ++ answer_text answer)) × (result ≡ at + length (space ++ answer_text answer)) }
     ensures short { result ≤ at + 29 }
 {
     match answer {

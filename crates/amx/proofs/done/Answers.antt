@@ -13,5 +13,5 @@ slice_bounds-run-end-2 c =
 pub returns : goal.returns
 returns c =
     let a = c.args in
-    done-as (effect_of (call a.instruction a.generation a.operand)) a.state.now c.run-bytes.new.0 c.raise.new.0 c.run-bytes.result
+    done-as (effect_of (call a.instruction a.generation a.operand)) a.state.now c.run-bytes.new.registers c.raise.new.state c.run-bytes.result
     (a.count + 1) c.requires.0 c.run-bytes.ensures c.raise.ensures

@@ -1,5 +1,4 @@
 use Rattle.amx.proofs.Table.{due-is}
-use borrow.Author.Rules.{rules}
 use Rattle.amx.proofs.due.Goals as goal
 
 pub returns : goal.returns

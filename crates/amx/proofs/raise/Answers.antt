@@ -1,7 +1,6 @@
 use mathlib.Core.Path.{◌∙◌}
 use Prim.Native.Nat.{◌+◌}
 use Rattle.isa.proofs.Registers.{count-stored}
-use borrow.Author.Rules.{rules}
 use Rattle.amx.proofs.raise.Goals as goal
 
 pub returns : goal.returns

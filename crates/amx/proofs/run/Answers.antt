@@ -8,25 +8,25 @@ use Rattle.amx.proofs.run.Goals as goal
 pub returns-then-instruction-eq14 : goal.returns-then-instruction-eq14
 returns-then-instruction-eq14 c =
     let a = c.args in
-    ran a.registers.now c.step.new.0 c.step.result a.instruction a.generation a.operand mac16
+    ran a.registers.now c.step.new.state c.step.result a.instruction a.generation a.operand mac16
     (ap instruction_by c.if-instruction-eq14.true) c.step.ensures
 
 pub returns-then-instruction-eq18 : goal.returns-then-instruction-eq18
 returns-then-instruction-eq18 c =
     let a = c.args in
-    ran a.registers.now c.step-then-instruction-eq18.new.0 c.step-then-instruction-eq18.result a.instruction a.generation a.operand vecint
+    ran a.registers.now c.step-then-instruction-eq18.new.state c.step-then-instruction-eq18.result a.instruction a.generation a.operand vecint
     (ap instruction_by c.if-instruction-eq18.true) c.step-then-instruction-eq18.ensures
 
 pub returns-then-instruction-eq19 : goal.returns-then-instruction-eq19
 returns-then-instruction-eq19 c =
     let a = c.args in
-    ran a.registers.now c.step-then-instruction-eq19.new.0 c.step-then-instruction-eq19.result a.instruction a.generation a.operand vecfp
+    ran a.registers.now c.step-then-instruction-eq19.new.state c.step-then-instruction-eq19.result a.instruction a.generation a.operand vecfp
     (ap instruction_by c.if-instruction-eq19.true) c.step-then-instruction-eq19.ensures
 
 pub returns-then-instruction-eq11 : goal.returns-then-instruction-eq11
 returns-then-instruction-eq11 c =
     let a = c.args in
-    ran a.registers.now c.step-then-instruction-eq11.new.0 c.step-then-instruction-eq11.result a.instruction a.generation a.operand fms64
+    ran a.registers.now c.step-then-instruction-eq11.new.state c.step-then-instruction-eq11.result a.instruction a.generation a.operand fms64
     (ap instruction_by c.if-instruction-eq11.true) c.step-then-instruction-eq11.ensures
 
 pub returns : goal.returns

@@ -14,17 +14,17 @@ returns-then-flag c = float_not_covered c.args.op (sym c.flag.ensures ∙ c.if-f
 pub returns-then-not-covered_mode : goal.returns-then-not-covered_mode
 returns-then-not-covered_mode c =
     float_not_covered c.args.op (sym c.flag.ensures ∙ c.if-flag.false)
-    (sym (c.covered_mode.ensures ∙ ap Vecfp.covered_mode c.alu_mode.ensures.0) ∙ not-true _ c.if-not-covered_mode.true) refl
+    (sym (c.covered_mode.ensures ∙ ap Vecfp.covered_mode c.alu_mode.ensures.0) ∙ c.if-not-covered_mode.true) refl
 
 pub returns-then-not-covered_width : goal.returns-then-not-covered_width
 returns-then-not-covered_width c =
     float_not_covered c.args.op (sym c.flag.ensures ∙ c.if-flag.false)
-    (sym (c.covered_mode.ensures ∙ ap Vecfp.covered_mode c.alu_mode.ensures.0) ∙ not-false _ c.if-not-covered_mode.false)
-    (sym (c.covered_width.ensures ∙ ap Vecfp.covered_width c.field.ensures) ∙ not-true _ c.if-not-covered_width.true)
+    (sym (c.covered_mode.ensures ∙ ap Vecfp.covered_mode c.alu_mode.ensures.0) ∙ c.if-not-covered_mode.false)
+    (sym (c.covered_width.ensures ∙ ap Vecfp.covered_width c.field.ensures) ∙ c.if-not-covered_width.true)
 
 pub returns : goal.returns
 returns c =
     ap (λ (n : ℕ). not (eqb n 0)) c.field-2.ensures
     ∙ float_not_covered c.args.op (sym c.flag.ensures ∙ c.if-flag.false)
-    (sym (c.covered_mode.ensures ∙ ap Vecfp.covered_mode c.alu_mode.ensures.0) ∙ not-false _ c.if-not-covered_mode.false)
-    (sym (c.covered_width.ensures ∙ ap Vecfp.covered_width c.field.ensures) ∙ not-false _ c.if-not-covered_width.false)
+    (sym (c.covered_mode.ensures ∙ ap Vecfp.covered_mode c.alu_mode.ensures.0) ∙ c.if-not-covered_mode.false)
+    (sym (c.covered_width.ensures ∙ ap Vecfp.covered_width c.field.ensures) ∙ c.if-not-covered_width.false)

@@ -11,4 +11,4 @@ returns c =
     let a = c.args in
     c.alu_answered.ensures
     ∙ ap₂ (λ (x y : Bool). first_of (alu_rows a.generation a.op x y) (Done 0))
-    (c.reserved_mode-reserved.ensures ∙ ap Vecint.reserved_mode-reserved c.alu_mode.ensures.0) c.not_covered.ensures
+    (c.reserved_mode-reserved.ensures ∙ ap Vecint.reserved_mode c.alu_mode.ensures.0) c.not_covered.ensures

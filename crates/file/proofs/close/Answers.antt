@@ -19,10 +19,10 @@ pub returns-then-not-clear : goal.returns-then-not-clear
 returns-then-not-clear c =
     let a = c.args in
     close-padding a.last.now a.n a.clear c.if-last-ne5132.false (subst (λ (k : ℕ). k ≤ a.n) c.consumed.ensures c.if-n-consumed.false)
-    (not-true a.clear c.if-not-clear.true)
+    c.if-not-clear.true
 
 pub returns : goal.returns
 returns c =
     let a = c.args in
     close-steps a.last.now a.n a.clear c.if-last-ne5132.false (subst (λ (k : ℕ). k ≤ a.n) c.consumed.ensures c.if-n-consumed.false)
-    (not-false a.clear c.if-not-clear.false)
+    c.if-not-clear.false

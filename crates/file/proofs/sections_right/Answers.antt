@@ -16,7 +16,7 @@ pub returns-then-not-entry_is : goal.returns-then-not-entry_is
 returns-then-not-entry_is c =
     let file = c.args.file.now in
     other-first file (le-leb (step_count file) most_steps (omega (arith, c.step_count-n.ensures.0, c.if-n-gt1000000.false)))
-    (entry_by file 4 1 c.contents_length-length.ensures.0 refl c.entry_is.ensures (not-true c.entry_is.result c.if-not-entry_is.true))
+    (entry_by file 4 1 c.contents_length-length.ensures.0 refl c.entry_is.ensures c.if-not-entry_is.true)
 
 pub returns : goal.returns
 returns c =
@@ -25,4 +25,4 @@ returns c =
     let file = c.args.file.now in
     c.entry_is-2.ensures ∙ (λ i. entry_is file 16 2 (size i + 5120) (16 * n i))
     ∙ by-second file (le-leb (step_count file) most_steps (omega (arith, n, c.if-n-gt1000000.false)))
-    (entry_by file 4 1 size refl c.entry_is.ensures (not-false c.entry_is.result c.if-not-entry_is.false))
+    (entry_by file 4 1 size refl c.entry_is.ensures c.if-not-entry_is.false)

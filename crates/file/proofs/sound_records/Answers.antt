@@ -20,7 +20,7 @@ pub returns-then-not-padding_clear : goal.returns-then-not-padding_clear
 returns-then-not-padding_clear c =
     let a = c.args in
     sound-stop a.steps.now a.n c.loop-i.i c.loop-i-test.true c.loop-i.invariant.1
-    (sound-set a.steps.now c.loop-i.i (sym c.padding_clear.ensures ∙ not-true c.padding_clear.result c.if-not-padding_clear.true))
+    (sound-set a.steps.now c.loop-i.i (sym c.padding_clear.ensures ∙ c.if-not-padding_clear.true))
 
 pub loop-i-preserved : goal.loop-i-preserved
 loop-i-preserved c =
@@ -28,7 +28,7 @@ loop-i-preserved c =
       omega arith,
       sound-next a.steps.now c.loop-i.i c.loop-i.invariant.1
           (sound-there a.steps.now c.loop-i.i (omega (arith, c.if-steps-i.false))
-          (sym c.padding_clear.ensures ∙ not-false c.padding_clear.result c.if-not-padding_clear.false)),
+          (sym c.padding_clear.ensures ∙ c.if-not-padding_clear.false)),
     )
 
 pub returns : goal.returns

@@ -13,7 +13,7 @@ loop-j-init c =
       omega arith,
       done_none a.p a.ts.now a.skipx a.on.now a.yon.now a.skipz a.state.now c.requires.0,
       c.requires.0,
-      λ p. (c.slice-known.given p).fits,
+      λ p. (c.slice_known-1.given p).fits,
     )
 
 pub loop-j-preserved : goal.loop-j-preserved
@@ -21,9 +21,9 @@ loop-j-preserved c =
     let a = c.args in (
       omega arith,
       matrix-turn a.p a.ts.now a.skipx a.on.now a.yon.now a.skipz a.state.now
-          c.loop-j.j c.loop-j.state c.matrix_row.new.0
+          c.loop-j.j c.loop-j.state c.matrix_row.new.state
           c.requires.1 (omega arith) c.loop-j.invariant.1 c.matrix_row.ensures,
-      c.matrix_row.auto.0 ∙ c.loop-j.invariant.2,
+      c.matrix_row.auto.state ∙ c.loop-j.invariant.2,
       λ p. (c.slice_known-in-loop-j-1.given p).fits,
     )
 
@@ -35,4 +35,4 @@ returns c =
     let a = c.args in
     done_all a.p a.ts.now a.skipx a.on.now a.yon.now a.skipz a.state.now
     (8 * c.loop-j.j) c.loop-j.state (omega arith) c.requires.0
-    (λ p. (c.slice-known.given p).fits) c.loop-j.invariant.3 c.loop-j.invariant.1
+    (λ p. (c.slice_known-1.given p).fits) c.loop-j.invariant.3 c.loop-j.invariant.1

@@ -19,7 +19,7 @@ vector_step-requires c =
 pub returns-then-flag : goal.returns-then-flag
 returns-then-flag c =
     let a = c.args in
-    on-registers a.op a.state.now c.vector_step.new.0 c.vector_step.result c.if-state-ne5120.false c.vector_step.ensures
+    on-registers a.op a.state.now c.vector_step.new.state c.vector_step.result c.if-state-ne5120.false c.vector_step.ensures
 
 pub matrix_step-requires : goal.matrix_step-requires
 matrix_step-requires c =
@@ -28,4 +28,4 @@ matrix_step-requires c =
 pub returns : goal.returns
 returns c =
     let a = c.args in
-    on-registers a.op a.state.now c.matrix_step.new.0 c.matrix_step.result c.if-state-ne5120.false c.matrix_step.ensures
+    on-registers a.op a.state.now c.matrix_step.new.state c.matrix_step.result c.if-state-ne5120.false c.matrix_step.ensures

@@ -10,10 +10,8 @@ use Rattle.number.proofs.Fill.{Filled, fill_more, fill-all}
 use Rattle.isa.specs.Vecint as Vecint
 use Rattle.sides.specs.Sides.{lane_bytes}
 use borrow.Author.Rules.{rules}
+use Rattle.loads.proofs.picks.Invariants.{byte}
 use Rattle.loads.proofs.picks.Goals as goal
-
-abbrev byte : List ℕ → List ℕ → Bool → Bool → ℕ → ℕ
-byte packed register wide four = Vecint.picked (lane_bytes wide) (Vecint.index_width four) (byte_at packed) (byte_at register)
 
 pub loop-i-init : goal.loop-i-init
 loop-i-init c = (omega arith, refl, λ j h. absurd (not-suc-le-zero h))

@@ -12,6 +12,9 @@ use Rattle.sides.specs.Sides.{lane_bytes}
 use borrow.Author.Rules.{rules}
 use Rattle.loads.proofs.picks.Given as goal
 
+abbrev pub byte : List ℕ → List ℕ → Bool → Bool → ℕ → ℕ
+byte packed register wide four = Vecint.picked (lane_bytes wide) (Vecint.index_width four) (byte_at packed) (byte_at register)
+
 abbrev pub invariant-loop-i : goal.invariant-loop-i
 invariant-loop-i l = (l.i ≤ 64) × (length l.out ≡ 64) × Filled 0 (byte l.packed l.register l.wide l.four) l.out l.i
 

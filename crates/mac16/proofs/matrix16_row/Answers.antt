@@ -15,11 +15,11 @@ use borrow.Author.Rules.{rules}
 use Rattle.mac16.proofs.matrix16_row.Goals as goal
 
 pub returns-then-not-yon-j : goal.returns-then-not-yon-j
-returns-then-not-yon-j c = sym (pick_false _ _ (not-true (get_or c.args.yon.now c.args.j false) c.if-not-yon-j.true))
+returns-then-not-yon-j c = sym (pick_false _ _ c.if-not-yon-j.true)
 
 pub returns : goal.returns
 returns c =
     c.row16.ensures
     ∙ pick_true _ _ (eq-eqb (length c.args.state.now) 5120 c.requires.0)
-    ∙ ap (λ (y : ℤ). applied (run_sum 2 (2 * c.args.j + c.args.p) 1 (row_terms 2 32 (c.args.s % 32) c.args.xs.now (replicate 32 y)) c.args.on.now c.args.keep) c.args.state.now) (to_z-of_z {w = w16} (sfits_of c.y.given))
-    ∙ sym (pick_true _ _ (not-false (get_or c.args.yon.now c.args.j false) c.if-not-yon-j.false))
+    ∙ ap (λ (y : ℤ). applied (run_sum 2 (2 * c.args.j + c.args.p) 1 (row_terms 2 32 (c.args.s % 32) c.args.xs.now (replicate 32 y)) c.args.on.now c.args.keep) c.args.state.now) (to_z-of_z {w = w16} (sfits_of c.y-1.given))
+    ∙ sym (pick_true _ _ c.if-not-yon-j.false)

@@ -13,7 +13,7 @@ returns c =
     let a = c.args in
     let enabled = lanes-of_rule (Mac16.x_enabled a.op) 64 32 c.x_mask-x.result _ (omega arith) c.x_mask-x.ensures c.lanes32-on.ensures in
     let enabled-y = lanes-of_rule (Mac16.y_enabled a.op) 64 32 c.y_mask-y.result _ (omega arith) c.y_mask-y.ensures c.lanes32-yon.ensures in (
-      matrix16-is a.op a.state.now c.matrix16.new.0 c.lanes32-on.result c.x_factors-xs.result c.y_factors-ys.result
+      matrix16-is a.op a.state.now c.matrix16.new.state c.lanes32-on.result c.x_factors-xs.result c.y_factors-ys.result
           c.shift.result c.keeps_z.result enabled c.x_factors-xs.ensures c.y_factors-ys.ensures
           c.shift.ensures.0 c.shift.ensures.1 c.keeps_z.ensures c.lanes32-yon.result enabled-y
           (c.z_row.result % 2) c.z_row.result c.z_row.ensures.0 refl c.matrix16.ensures,

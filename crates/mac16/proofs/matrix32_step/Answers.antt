@@ -13,7 +13,7 @@ returns c =
     let a = c.args in
     let enabled = lanes-of_rule (Mac16.x_enabled a.op) 64 32 c.x_mask-x.result _ (omega arith) c.x_mask-x.ensures c.lanes32-on.ensures in
     let enabled-y = lanes-of_rule (Mac16.y_enabled a.op) 64 32 c.y_mask-y.result _ (omega arith) c.y_mask-y.ensures c.lanes32-yon.ensures in (
-      matrix32-is a.op a.state.now c.matrix32.new.0 c.lanes32-on.result (masked c.lanes32-on.result c.x_side-xs.result)
+      matrix32-is a.op a.state.now c.matrix32.new.state c.lanes32-on.result (masked c.lanes32-on.result c.x_side-xs.result)
           c.y_factors-ys.result c.shift.result c.keeps_z.result enabled (ap (masked c.lanes32-on.result) c.x_side-xs.ensures)
           c.y_factors-ys.ensures c.shift.ensures.0 c.shift.ensures.1 c.keeps_z.ensures
           c.lanes32-yon.result enabled-y c.matrix32.ensures,

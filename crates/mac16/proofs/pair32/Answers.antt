@@ -18,6 +18,7 @@ use Rattle.state.proofs.RunLoop.{Upto, run_none, run-reads, run_more, run-all, r
 use Rattle.mac16.proofs.Rows.{term-at}
 use Rattle.mac16.proofs.Sides.{masked-at}
 use Rattle.mac16.specs.Products.{masked, term, row_terms}
+use mir.Syntax.{w16}
 use Rattle.mac16.proofs.pair32.Goals as goal
 
 pub returns-then-state-ne5120 : goal.returns-then-state-ne5120
@@ -27,23 +28,23 @@ pub returns-then-j-ge32 : goal.returns-then-j-ge32
 returns-then-j-ge32 c = run-outside (run_sum 4 (c.args.j * 2) 2 (row_terms 4 32 (c.args.s % 32) (masked c.args.on.now c.args.xs.now) c.args.ys.now) c.args.on.now c.args.keep) 16 refl (c.args.j * 2) 2 c.args.state.now (in-run 4 (c.args.j * 2) 2 (row_terms 4 32 (c.args.s % 32) (masked c.args.on.now c.args.xs.now) c.args.ys.now) c.args.on.now c.args.keep) (omega arith) ∙ sym (pick_true _ _ (eq-eqb (length c.args.state.now) 5120 c.if-state-ne5120.false))
 
 pub loop-i-init : goal.loop-i-init
-loop-i-init c = (omega arith, run_none (run_sum 4 (c.args.j * 2) 2 (row_terms 4 32 (c.args.s % 32) (masked c.args.on.now c.args.xs.now) c.args.ys.now) c.args.on.now c.args.keep) 16 refl (c.args.j * 2) 2 c.args.state.now c.if-state-ne5120.false, λ p. (c.slice-known.given p).fits)
+loop-i-init c = (omega arith, run_none (run_sum 4 (c.args.j * 2) 2 (row_terms 4 32 (c.args.s % 32) (masked c.args.on.now c.args.xs.now) c.args.ys.now) c.args.on.now c.args.keep) 16 refl (c.args.j * 2) 2 c.args.state.now c.if-state-ne5120.false, λ p. (c.slice_known-1.given p).fits)
 
 pub loop-i-preserved : goal.loop-i-preserved
 loop-i-preserved c = (
   omega arith,
-  run_more (run_sum 4 (c.args.j * 2) 2 (row_terms 4 32 (c.args.s % 32) (masked c.args.on.now c.args.xs.now) c.args.ys.now) c.args.on.now c.args.keep) 16 refl (c.args.j * 2) 2 c.args.state.now (omega arith) c.loop-i.i (omega arith) _ c.loop-i.state c.sum_lane32.new.0 c.loop-i.invariant.1
+  run_more (run_sum 4 (c.args.j * 2) 2 (row_terms 4 32 (c.args.s % 32) (masked c.args.on.now c.args.xs.now) c.args.ys.now) c.args.on.now c.args.keep) 16 refl (c.args.j * 2) 2 c.args.state.now (omega arith) c.loop-i.i (omega arith) _ c.loop-i.state c.sum_lane32.new.state c.loop-i.invariant.1
       (c.sum_lane32.ensures
       ∙ ap (λ (v : ℕ). sets c.loop-i.state (1024 + (c.args.j * 2 * 64 + c.loop-i.i * 4)) (bytes_of 4 (lane_sum 4 (number 4 (byte_at c.loop-i.state) (1024 + (c.args.j * 2 * 64 + c.loop-i.i * 4))) v (get_or c.args.on.now c.loop-i.i false) c.args.keep)))
       (c.term32-term.ensures
       ∙ ap₂ (term 4 (c.args.s % 32))
-      (to_z-of_z (sfits_of c.kept_if.type_inv)
+      (to_z-of_z {w = w16} (sfits_of c.kept_if.type_inv)
       ∙ c.kept_if.ensures
-      ∙ ap (λ (x : ℤ). cond (get_or c.args.on.now c.loop-i.i false) x (pos 0)) (to_z-of_z {w = w16} (sfits_of c.kept-if-arg.given))
+      ∙ ap (λ (x : ℤ). cond (get_or c.args.on.now c.loop-i.i false) x (pos 0)) (to_z-of_z {w = w16} (sfits_of c.kept_if-arg-1.given))
       ∙ sym (masked-at c.args.on.now c.args.xs.now c.loop-i.i (omega arith)))
-      (to_z-of_z {w = w16} (sfits_of c.term32-arg.given))
+      (to_z-of_z {w = w16} (sfits_of c.term32-arg-1.given))
       ∙ sym (term-at 4 32 (c.args.s % 32) (masked c.args.on.now c.args.xs.now) c.args.ys.now c.loop-i.i (omega arith))))
-      (summed 4 (c.args.j * 2) 2 (row_terms 4 32 (c.args.s % 32) (masked c.args.on.now c.args.xs.now) c.args.ys.now) c.args.on.now c.args.keep 16 refl c.args.state.now (λ p. (c.slice-known.given p).fits) c.loop-i.i _ (omega arith)
+      (summed 4 (c.args.j * 2) 2 (row_terms 4 32 (c.args.s % 32) (masked c.args.on.now c.args.xs.now) c.args.ys.now) c.args.on.now c.args.keep 16 refl c.args.state.now (λ p. (c.slice_known-1.given p).fits) c.loop-i.i _ (omega arith)
       (run-reads (run_sum 4 (c.args.j * 2) 2 (row_terms 4 32 (c.args.s % 32) (masked c.args.on.now c.args.xs.now) c.args.ys.now) c.args.on.now c.args.keep) 16 refl (c.args.j * 2) 2 c.args.state.now (omega arith) c.loop-i.i (omega arith) c.loop-i.state c.loop-i.invariant.1)),
   λ p. (c.slice_known-in-loop-i-1.given p).fits,
 )
@@ -52,5 +53,5 @@ pub shape_of-state : goal.shape_of-state
 shape_of-state c = c.loop-i.invariant.1.size ∙ sym c.if-state-ne5120.false
 
 pub returns : goal.returns
-returns c = run-all (run_sum 4 (c.args.j * 2) 2 (row_terms 4 32 (c.args.s % 32) (masked c.args.on.now c.args.xs.now) c.args.ys.now) c.args.on.now c.args.keep) 16 refl (c.args.j * 2) 2 c.args.state.now (in-run 4 (c.args.j * 2) 2 (row_terms 4 32 (c.args.s % 32) (masked c.args.on.now c.args.xs.now) c.args.ys.now) c.args.on.now c.args.keep) c.loop-i.i c.loop-i.state c.loop-i-test.false c.if-state-ne5120.false (λ p. (c.slice-known.given p).fits) c.loop-i.invariant.2 c.loop-i.invariant.1
+returns c = run-all (run_sum 4 (c.args.j * 2) 2 (row_terms 4 32 (c.args.s % 32) (masked c.args.on.now c.args.xs.now) c.args.ys.now) c.args.on.now c.args.keep) 16 refl (c.args.j * 2) 2 c.args.state.now (in-run 4 (c.args.j * 2) 2 (row_terms 4 32 (c.args.s % 32) (masked c.args.on.now c.args.xs.now) c.args.ys.now) c.args.on.now c.args.keep) c.loop-i.i c.loop-i.state c.loop-i-test.false c.if-state-ne5120.false (λ p. (c.slice_known-1.given p).fits) c.loop-i.invariant.2 c.loop-i.invariant.1
     ∙ sym (pick_true _ _ (eq-eqb (length c.args.state.now) 5120 c.if-state-ne5120.false))

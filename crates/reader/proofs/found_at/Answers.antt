@@ -11,4 +11,4 @@ returns-in-Record c =
 pub returns-in-End : goal.returns-in-End
 unfolding found_as
 returns-in-End c =
-    ap (found_of c.args.cursor) (sym c.enum_told.given.1 ∙ c.read_record-read.ensures)
+    ap (found_of c.args.cursor) (sym c.enum_told-1.given.1 ∙ c.read_record-read.ensures)

@@ -10,7 +10,7 @@ use Rattle.reduction.specs.Reduction.{reduce_to}
 use Rattle.reduction.proofs.row32.Given as goal
 
 abbrev pub invariant-loop-l : goal.invariant-loop-l
-invariant-loop-l l = (l.l ≤ 16) × Lanes 4 16 refl l.row (λ l.l. get_or l.on l.l false) (λ l.l. reduce_to 4 l.how) l.initial.state l.l l.state × Bytes l.state
+invariant-loop-l l = (l.l ≤ 16) × Lanes 4 16 refl l.row (λ k. get_or l.on k false) (λ k. reduce_to 4 l.how) l.initial.state l.l l.state × Bytes l.state
 
 abbrev pub decreases-loop-l : goal.decreases-loop-l
 decreases-loop-l l = 16 - l.l

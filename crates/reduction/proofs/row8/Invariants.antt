@@ -11,7 +11,7 @@ use native.Mathlib.Nat.{mul-one}
 use Rattle.reduction.proofs.row8.Given as goal
 
 abbrev pub invariant-loop-l : goal.invariant-loop-l
-invariant-loop-l l = (l.l ≤ 64) × Lanes 1 64 refl l.row (λ l.l. get_or l.on l.l false) (λ l.l. reduce_to 1 l.how) l.initial.state l.l l.state × Bytes l.state
+invariant-loop-l l = (l.l ≤ 64) × Lanes 1 64 refl l.row (λ k. get_or l.on k false) (λ k. reduce_to 1 l.how) l.initial.state l.l l.state × Bytes l.state
 
 abbrev pub decreases-loop-l : goal.decreases-loop-l
 decreases-loop-l l = 64 - l.l

@@ -6,14 +6,15 @@ use mathlib.Core.Path.{ap, ◌∙◌}
 use Rattle.number.specs.Integers.{clamp}
 use Rattle.reduction.specs.Reduction.{shifted_by, low_end, highest}
 use borrow.Author.Rules.{rules}
+use mir.Syntax.{w32}
 use Rattle.reduction.proofs.value32.Goals as goal
 
 pub returns-then-how : goal.returns-then-how
-returns-then-how c = to_z-of_z (sfits_of c.clamped32.type_inv)
+returns-then-how c = to_z-of_z {w = w32} (sfits_of c.clamped32.type_inv)
     ∙ c.clamped32.ensures
     ∙ (λ i. clamp ((to_z-of_z {w = w32} (sfits_of c.low32.type_inv) ∙ c.low32.ensures) i) ((to_z-of_z {w = w32} (sfits_of c.high32.type_inv) ∙ c.high32.ensures) i) (to_z-of_z {w = w32} {z = c.moved32-v.result} (sfits_of c.moved32-v.type_inv) i))
     ∙ clamp-same (low_end c.args.how.below c.args.how.width) (highest c.args.how.below c.args.how.width) c.moved32-v.result c.moved32-v.type_inv
     ∙ value-clamped c.args.how c.args.old c.moved32-v.result (c.moved32-v.ensures ∙ ap (shifted_by c.args.how) (to_z-of_z c.ranges.old)) c.if-how.true
 
 pub returns : goal.returns
-returns c = to_z-of_z (sfits_of c.moved32-v.type_inv) ∙ value-left c.args.how c.args.old c.moved32-v.result (c.moved32-v.ensures ∙ ap (shifted_by c.args.how) (to_z-of_z c.ranges.old)) c.if-how.false
+returns c = to_z-of_z {w = w32} (sfits_of c.moved32-v.type_inv) ∙ value-left c.args.how c.args.old c.moved32-v.result (c.moved32-v.ensures ∙ ap (shifted_by c.args.how) (to_z-of_z c.ranges.old)) c.if-how.false

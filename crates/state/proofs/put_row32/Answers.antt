@@ -16,7 +16,7 @@ returns-then-row-ge64 c =
 pub loop-l-init : goal.loop-l-init
 loop-l-init c =
     let a = c.args in
-    stored-none 4 16 refl a.row a.values.now a.on.now a.state.now c.if-state-ne5120.false (λ p. (c.slice-known.given p).fits)
+    stored-none 4 16 refl a.row a.values.now a.on.now a.state.now c.if-state-ne5120.false (λ p. (c.slice_known-1.given p).fits)
 
 pub store32-requires : goal.store32-requires
 store32-requires c =
@@ -27,7 +27,7 @@ loop-l-preserved c =
     let a = c.args in
     stored_more 4 16 refl a.row a.values.now a.on.now a.state.now c.words32-zs.result
     (row_read 4 16 refl a.state.now c.straight-bytes.result c.words32-zs.result a.row c.straight-bytes.ensures c.words32-zs.ensures)
-    c.loop-l.l c.chosen32.result c.loop-l.state c.store32.new.0 (λ p. (c.slice-known.given p).fits)
+    c.loop-l.l c.chosen32.result c.loop-l.state c.store32.new.state (λ p. (c.slice_known-1.given p).fits)
     (λ p. (c.slice_known-in-loop-l-1.given p).fits) (omega arith) c.loop-l-test.true c.loop-l.invariant c.chosen32.ensures c.store32.ensures
 
 pub shape_of-state : goal.shape_of-state
@@ -38,4 +38,4 @@ pub returns : goal.returns
 returns c =
     let a = c.args in
     stored-all 4 16 refl a.row a.values.now a.on.now a.state.now c.loop-l.l c.loop-l.state
-    c.loop-l-test.false c.if-state-ne5120.false (λ p. (c.slice-known.given p).fits) c.loop-l.invariant
+    c.loop-l-test.false c.if-state-ne5120.false (λ p. (c.slice_known-1.given p).fits) c.loop-l.invariant

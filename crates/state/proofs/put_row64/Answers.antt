@@ -16,7 +16,7 @@ returns-then-row-ge64 c =
 pub loop-l-init : goal.loop-l-init
 loop-l-init c =
     let a = c.args in
-    stored-none 8 8 refl a.row a.values.now a.on.now a.state.now c.if-state-ne5120.false (λ p. (c.slice-known.given p).fits)
+    stored-none 8 8 refl a.row a.values.now a.on.now a.state.now c.if-state-ne5120.false (λ p. (c.slice_known-1.given p).fits)
 
 pub store64-requires : goal.store64-requires
 store64-requires c =
@@ -27,7 +27,7 @@ loop-l-preserved c =
     let a = c.args in
     stored_more 8 8 refl a.row a.values.now a.on.now a.state.now c.words64-zs.result
     (row_read 8 8 refl a.state.now c.straight-bytes.result c.words64-zs.result a.row c.straight-bytes.ensures c.words64-zs.ensures)
-    c.loop-l.l c.chosen64.result c.loop-l.state c.store64.new.0 (λ p. (c.slice-known.given p).fits)
+    c.loop-l.l c.chosen64.result c.loop-l.state c.store64.new.state (λ p. (c.slice_known-1.given p).fits)
     (λ p. (c.slice_known-in-loop-l-1.given p).fits) (omega arith) c.loop-l-test.true c.loop-l.invariant c.chosen64.ensures c.store64.ensures
 
 pub shape_of-state : goal.shape_of-state
@@ -38,4 +38,4 @@ pub returns : goal.returns
 returns c =
     let a = c.args in
     stored-all 8 8 refl a.row a.values.now a.on.now a.state.now c.loop-l.l c.loop-l.state
-    c.loop-l-test.false c.if-state-ne5120.false (λ p. (c.slice-known.given p).fits) c.loop-l.invariant
+    c.loop-l-test.false c.if-state-ne5120.false (λ p. (c.slice_known-1.given p).fits) c.loop-l.invariant

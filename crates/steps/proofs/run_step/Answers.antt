@@ -15,4 +15,4 @@ returns-in-Record c =
 pub returns-in-End : goal.returns-in-End
 returns-in-End c =
     let a = c.args in
-    step-none a.state.now a.out.now a.at (a.first + a.i) a.step c.enum_told.given.1
+    step-none a.state.now a.out.now a.at (a.first + a.i) a.step c.enum_told-1.given.1

@@ -8,5 +8,8 @@ returns c =
     let a = c.args in
     let put_word = c.put_word-next in
     let put-decimal = c.put_decimal in
-    stored_counted a.out.now put_word.new.out put-decimal.new.0 a.at put_word.result put-decimal.result a.word.now
-    (digits a.n) put_word.ensures put-decimal.ensures.0 put-decimal.ensures.1
+    let whole =
+        stored_counted a.out.now put_word.new.out put-decimal.new.out a.at put_word.result put-decimal.result a.word.now
+        (digits a.n) put_word.ensures put-decimal.ensures.stored put-decimal.ensures.short
+    in
+    record { stored = whole.0; short = whole.1 }

@@ -33,4 +33,5 @@ returns c =
     let a = c.args in
     let pre = c.requires in
     let turn = c.loop-i in
-    hex-all a.out.now turn.out a.at turn.i a.bytes.now pre.1 (omega arith) turn.invariant.2
+    let whole = hex-all a.out.now turn.out a.at turn.i a.bytes.now pre.1 (omega arith) turn.invariant.2 in
+    record { stored = whole.0; short = whole.1 }

@@ -6,8 +6,8 @@ use Rattle.text.proofs.store_below_10000.Goals as goal
 pub returns : goal.returns
 returns c =
     let front = c.store_below_100-next in
-    let pair = c.store_pair in (
-      stored_hundreds c.args.out.now front.new.0 pair.new.0 c.args.at front.result c.args.n pair.result
-          c.if-n-lt100.false front.ensures.0 pair.ensures,
-      omega (arith, front.ensures.1, pair.ensures.1),
-    )
+    let pair = c.store_pair in record {
+      stored = stored_hundreds c.args.out.now front.new.out pair.new.out c.args.at front.result c.args.n pair.result
+          c.if-n-lt100.false front.ensures.stored pair.ensures;
+      short = omega (arith, front.ensures.short, pair.ensures.1);
+    }

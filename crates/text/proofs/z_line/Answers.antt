@@ -9,5 +9,5 @@ returns c =
     let put = c.put-next in
     let put-hex = c.put_hex-next in
     let put2 = c.put in
-    row-stored a.out.now put-counted.new.out put.new.0 put-hex.new.0 put2.new.0 a.at put-counted.result put.result
-    put-hex.result put2.result a.row a.bytes.now put-counted.ensures.0 put.ensures put-hex.ensures.0 put2.ensures
+    row-stored a.out.now put-counted.new.out put.new.out put-hex.new.out put2.new.out a.at put-counted.result put.result
+    put-hex.result put2.result a.row a.bytes.now put-counted.ensures.stored put.ensures put-hex.ensures.stored put2.ensures

@@ -6,11 +6,11 @@ pub returns-then-behind-gt0 : goal.returns-then-behind-gt0
 returns-then-behind-gt0 c =
     let a = c.args in
     ends-behind a.registers.now a.n a.state.now a.behind.now a.out.now c.if-behind-gt0.true
-    c.print_refused.new.0 c.print_refused.result c.print_refused.ensures
+    c.print_refused.new.out c.print_refused.result c.print_refused.ensures
 
 pub returns : goal.returns
 returns c =
     let a = c.args in
     ends-here a.registers.now a.n a.state.now a.behind.now a.out.now c.if-behind-gt0.false
-    c.print_rows-at.new.1.1.0 c.steps_line.new.0 c.print_rows-at.result c.steps_line.result
+    c.print_rows-at.new.out c.steps_line.new.out c.print_rows-at.result c.steps_line.result
     c.print_rows-at.ensures.out_after c.steps_line.ensures

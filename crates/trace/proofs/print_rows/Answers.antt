@@ -18,7 +18,7 @@ loop-row-preserved c =
     let a = c.args in (
       omega arith,
       omega (arith, c.print_row-at.ensures.short, c.loop-row.invariant.1),
-      rows_more a.start.now a.state.now a.out.now c.loop-row.out c.print_row-at.new.1.1.0 c.loop-row.row
+      rows_more a.start.now a.state.now a.out.now c.loop-row.out c.print_row-at.new.out c.loop-row.row
           c.loop-row.at c.print_row-at.result c.loop-row.invariant.2 c.print_row-at.ensures.out_after,
     )
 
@@ -29,9 +29,9 @@ shape_of-out c =
 
 pub returns : goal.returns
 returns c =
-    let a = c.args in (
-      stored_front a.out.now c.loop-row.out (z_lines a.start.now a.state.now) c.loop-row.at
+    let a = c.args in record {
+      out_after = stored_front a.out.now c.loop-row.out (z_lines a.start.now a.state.now) c.loop-row.at
           (rows_all a.start.now a.state.now a.out.now c.loop-row.out c.loop-row.row c.loop-row.at c.loop-row.invariant.0
-          c.loop-row-test.false c.loop-row.invariant.2),
-      omega (arith, c.loop-row.invariant.0, c.loop-row.invariant.1),
-    )
+          c.loop-row-test.false c.loop-row.invariant.2);
+      short = omega (arith, c.loop-row.invariant.0, c.loop-row.invariant.1);
+    }

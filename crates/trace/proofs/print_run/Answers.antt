@@ -21,7 +21,7 @@ returns-then-k-m c =
     let k = c.sound_records-k.result in
     let lent = lent-calls m a.part.now k c.sound_records-k.ensures c.run_of-m.ensures.1 in
     runs_on m a.left a.first c.run_of-m.ensures.0 a.state.now a.part.now a.out.now
-    c.run-at.new.1.0 c.run-at.new.1.1.0 k c.run-at.result _
+    c.run-at.new.state c.run-at.new.out k c.run-at.result _
     c.sound_records-k.ensures lent c.run-at.ensures.state_after.0 c.run-at.ensures.state_after.1 c.run-at.ensures.state_after.2 c.if-k-m.true
 
 pub overflow_cast-k : goal.overflow_cast-k
@@ -35,12 +35,12 @@ returns c =
     let m = c.run_of-m.result in
     let k = c.sound_records-k.result in
     let lent = lent-calls m a.part.now k c.sound_records-k.ensures c.run_of-m.ensures.1 in
-    let out = c.run-at.new.1.1.0 in
+    let out = c.run-at.new.out in
     let refusal = c.fault_at.result in
-    let stored = refused-stored out c.refused_line.new.0 c.run-at.result c.file_refusal_number-number.result c.refused_line.result refusal
+    let stored = refused-stored out c.refused_line.new.out c.run-at.result c.file_refusal_number-number.result c.refused_line.result refusal
     c.file_refusal_number-number.ensures.0 c.refused_line.ensures
     in
     runs-stop m a.left a.first c.run_of-m.ensures.0 a.state.now a.part.now a.out.now
-    c.run-at.new.1.0 out k c.run-at.result _
+    c.run-at.new.state out k c.run-at.result _
     c.sound_records-k.ensures lent c.run-at.ensures.state_after.0 c.run-at.ensures.state_after.1 c.run-at.ensures.state_after.2 c.if-k-m.false
-    refusal c.fault_at.ensures c.refused_line.new.0 c.refused_line.result stored
+    refusal c.fault_at.ensures c.refused_line.new.out c.refused_line.result stored

@@ -15,7 +15,7 @@ y_side-requires c =
 pub returns : goal.returns
 returns c =
     let a = c.args in
-    vector-meant binary32 a.generation a.op a.v a.state.now c.requires.2 c.requires.0 (λ p. (c.slice-known.given p).fits)
+    vector-meant binary32 a.generation a.op a.v a.state.now c.requires.2 c.requires.0 (λ p. (c.slice_known-1.given p).fits)
     c.requires.1 c.requires.3
     (record {
       x-side = c.x_side.ensures;

@@ -6,7 +6,7 @@ use Rattle.vecfp.proofs.VectorsLoop.{Done, done_none, done_more, done_all}
 use Rattle.vecfp.proofs.vectors32.Goals as goal
 
 pub loop-v-init : goal.loop-v-init
-loop-v-init c = done_none c.requires.0 (λ p. (c.slice-known.given p).fits)
+loop-v-init c = done_none c.requires.0 (λ p. (c.slice_known-1.given p).fits)
 
 pub vector32-requires : goal.vector32-requires
 vector32-requires c =
@@ -24,4 +24,4 @@ shape_of-state c =
 pub returns : goal.returns
 returns c =
     done_all c.loop-v.invariant c.loop-v-test.false c.vectors-vectors.ensures.0 c.requires.0
-    (λ p. (c.slice-known.given p).fits)
+    (λ p. (c.slice_known-1.given p).fits)

@@ -16,4 +16,4 @@ unfolding Vecfp.x_offset
 returns c =
     let a = c.args in
     let at = c.offset.ensures ∙ (λ i. c.field.ensures i + cond (c.broadcasts-same.ensures i) 0 (64 * a.v)) in
-    λ i. record { y = false; c = c.vecfp_overrides.ensures i; c = at i; lane = c.x_lane.ensures i }
+    λ i. record { y = false; zero = c.vecfp_overrides.ensures i; from = at i; lane = c.x_lane.ensures i }
