@@ -2,4 +2,3 @@ pub mod Joined
 pub mod Short
 pub mod Branches
 pub mod Turns
-pub mod Again

@@ -2,11 +2,10 @@
 -- Assumes nothing.
 use mathlib.Core.Path.{◌≡◌, refl, sym, ap, subst, ◌∙◌}
 use mathlib.Core.List.{List, [], ◌∷◌, ◌++◌}
-use Prim.Native.Nat.{ℕ, ◌+◌, ◌*◌, ◌^◌, ◌≤◌, ◌<◌}
-use native.Mathlib.Nat.{zero-add}
+use Prim.Native.Nat.{ℕ, ◌+◌, ◌*◌, ◌≤◌, ◌<◌}
 use native.Mathlib.Omega.{arith}
 use lib.ListN.{length}
-use lib.Seq.{sets, length-sets}
+use lib.Seq.{sets}
 use Rattle.number.specs.Bytes.{table}
 use Rattle.isa.specs.Call.{Call}
 use Rattle.isa.specs.State.{count_of}
@@ -44,21 +43,6 @@ module _ (steps s₀ o₀ : List ℕ) (first : ℕ) where
   ran-none = (refl, (refl, refl), omega arith)
 
   module _ {s o : List ℕ} {at : ℕ} where
-    pub ran-lengths : (i : ℕ) → Ran i s o at → (length s ≡ length s₀) × (length o ≡ length o₀)
-    ran-lengths i (e, (f, _), _) = (ap length e ∙ length_run (calls steps i) s₀, ap length f ∙ length-sets o₀ 0 (lines i))
-
-    pub ran-all : (n i : ℕ) → i ≡ n → Ran i s o at → RanAll n s o at
-    ran-all n i same ran =
-        let all : Ran n s o at = subst (λ (k : ℕ). Ran k s o at) same ran in
-        (all.0, all.1.0, all.1.1 ∙ zero-add (length (lines n)), all.2)
-
-    -- the position is a usize, and what running record i asks
-    pub ran-fits : (i n : ℕ) → i ≤ n → n ≤ 2048 → Ran i s o at → at < 2 ^ 64
-    ran-fits i n h most ran = omega (arith, ran.2)
-
-    pub ran-asks : (i n : ℕ) → i < n → n ≤ 2048 → Ran i s o at → (i < 2048) × (at ≤ 55 * i)
-    ran-asks i n h most ran = (omega arith, ran.2)
-
     -- one more: a reader at record i of n found one, and it was run
     pub ran-more : (i n : ℕ) → i < n → n ≤ 2048 → Ran i s o at → (found : Step) → found ≡ (found_as steps (cursor i n)).step
         → {s' o' : List ℕ} {at' : ℕ} → RanOne s o at (first + i) found s' o' at' → at' ≤ at + 55 → Ran (i + 1) s' o' at'

@@ -1,4 +1,3 @@
-use borrow.Author.Rules.{rules}
 use Rattle.file.specs.File.{records_in}
 use Rattle.steps.proofs.Turns.{ran-records}
 use Rattle.steps.proofs.run.Goals as goal
@@ -7,5 +6,7 @@ pub returns : goal.returns
 returns c =
     let count = c.record_count in
     let a = c.args in
+    let ran =
     ran-records a.steps.now a.state.now a.out.now a.first
     count.result (records_in a.steps.now) count.ensures.0 count.ensures.1 c.run_records.ensures
+    in record { state_after = ran.0; short = ran.1 }
