@@ -1,27 +1,36 @@
 // amx_trace FILE: writes the text of a trace file to standard output. What goes wrong is said on standard error.
 #![tactic(auto)]
 
-use libc::STDERR_FILENO;
+use std::env::{Env, FillError};
+use std::io;
 
-fn say_usage() {
-    io::write_all(STDERR_FILENO, b"usage: amx_trace FILE\n");
+// ENAMETOOLONG of Linux
+const NAME_TOO_LONG: i32 = 36;
+
+fn say_usage(rt: &HostRuntime) {
+    let _ = rt.stderr().write_all(b"usage: amx_trace FILE\n");
 }
 
-fn main() {
-    if os::arg_count() != 2 {
-        say_usage();
+// Whether there is an argument of this number, however long.
+fn is_given(rt: &HostRuntime, i: usize) -> bool {
+    let mut first = [0u8; 1];
+    !matches!(rt.arg(i, &mut first), Err(FillError::NotPresent))
+}
+
+fn main(rt: HostRuntime) {
+    if is_given(&rt, 2) {
+        say_usage(&rt);
         return;
     }
-    let mut path = io::buffer();
-    let n = os::arg(1, &mut path);
-    // A name that is too long for a path: its first bytes are named.
-    if os::errno() != 0 {
-        os::fail(&path);
-        return;
+    let mut path = [0u8; 4096];
+    match rt.arg(1, &mut path) {
+        Ok(0) | Err(FillError::NotPresent) => say_usage(&rt),
+        Ok(n) => {
+            disk::print_file(&rt, &path[..n]);
+        }
+        // A name that is too long for a path: its first bytes are named.
+        Err(FillError::TooLong) => {
+            disk::say_failed(&rt, &path, io::Error::from_raw_os_error(NAME_TOO_LONG));
+        }
     }
-    if n == 0 {
-        say_usage();
-        return;
-    }
-    disk::print_file(&path[..n]);
 }

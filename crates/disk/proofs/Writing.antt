@@ -10,7 +10,6 @@ use borrow.Author.Tests.{lt-ltb, le-ltb}
 use lib.ListN.{length, take, drop}
 use lib.Seq.{sets, length-sets, sets-eq, take-append_seam}
 use Rattle.number.proofs.Tests.{pick_true, pick_false, true_false, lt_or_le}
-use Rattle.io.specs.Counts.{IsPrefixLen}
 use Rattle.file.specs.declared.FileRefusal.{FileRefusal}
 use Rattle.file.specs.File.{file_refusal_number, bytes_from, contents_length, steps_base, registers_in, run_of, sound_in}
 use Rattle.file.proofs.Sound.{sound-most}
@@ -28,7 +27,7 @@ use Rattle.disk.specs.declared.Shown.TheVariants.{Printed, Unreadable, Unwritabl
 use Rattle.disk.specs.declared.Turn.{Turn}
 use Rattle.disk.specs.declared.Turn.TheVariants as turn
 use Rattle.disk.specs.declared.Turn.TheVariants.{Over}
-use Rattle.disk.specs.Shown.{Ended, Alone, text_size, RunSays, Wrote, Turned}
+use Rattle.disk.specs.Shown.{IsPrefixLen, Ended, Alone, text_size, RunSays, Wrote, Turned}
 
 -- ---- a text at the start of a buffer
 

@@ -1,7 +1,6 @@
 -- What printing a file by its name answers, and what holds of it.
 -- Assumes nothing.
 use Rattle.std.specs.Prelude.{◌≡◌, List, [], ℕ, ◌+◌, ◌≤◌, length, take}
-use Rattle.io.specs.Counts.{IsPrefixLen}
 use Rattle.file.specs.declared.FileRefusal.{FileRefusal}
 use Rattle.file.specs.File.{file_refusal_number}
 use Rattle.text.specs.Lines.{refused_line}
@@ -24,6 +23,10 @@ abbrev pub Holds : Shown → Type 0
 Holds (Printed size) = Ended size
 Holds Unreadable = Unit {0}
 Holds Unwritable = Unit {0}
+
+-- the first n bytes are there, and can be lent as they are
+abbrev pub IsPrefixLen : ℕ → List ℕ → Type 0
+IsPrefixLen n xs = (n ≤ length xs) × (n ≡ length (take n xs))
 
 -- the text of a run lies at the start of a buffer, and is what is printed next
 abbrev pub text_size : Ran → ℕ

@@ -1,18 +1,26 @@
 // traces FILE..: the name and then the text of each file, so that one run covers all stored traces.
 #![tactic(auto)]
 
-use libc::STDOUT_FILENO;
+use std::env::{Env, FillError};
 
-fn print_named(i: usize) {
-    let mut path = io::buffer();
-    let n = os::arg(i, &mut path);
-    io::write_all(STDOUT_FILENO, &path[..n]);
-    io::write_all(STDOUT_FILENO, b"\n");
-    disk::print_file(&path[..n]);
+// A name that is too long for a path is none.
+fn print_named(rt: &HostRuntime, i: usize) -> bool {
+    let mut path = [0u8; 4096];
+    let n = match rt.arg(i, &mut path) {
+        Ok(n) => n,
+        Err(FillError::TooLong) => 0,
+        Err(FillError::NotPresent) => return false,
+    };
+    let _ = rt.write_all(&path[..n]);
+    let _ = rt.write_all(b"\n");
+    disk::print_file(rt, &path[..n]);
+    true
 }
 
-fn main() {
-    for i in 1..os::arg_count() {
-        print_named(i);
+fn main(rt: HostRuntime) {
+    for i in 1..usize::MAX {
+        if !print_named(&rt, i) {
+            return;
+        }
     }
 }
