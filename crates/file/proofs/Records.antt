@@ -14,7 +14,6 @@ use Rattle.number.specs.Bytes.{byte_at, number, table}
 use Rattle.number.proofs.Tests.{pick_true, pick_false, lt_or_le}
 use Rattle.number.proofs.Bytes.{length-table, table-add, table_same, number-moved}
 use Rattle.isa.specs.Call.{Call, call}
-use Rattle.file.specs.declared.Record.{Record}
 use Rattle.file.specs.declared.Read.TheVariants as read
 use Rattle.file.specs.File.{bytes_from, run_steps, run_of, records_in, call_at, calls, cursor, record_of, read_as}
 use Rattle.file.proofs.Parts.{byte-from, part-between}

@@ -1,18 +1,14 @@
 -- Floats at the edges, computed from the meaning.
 -- Assumes nothing.
-use mathlib.Core.Path.{◌≡◌, refl, sym, ap, ◌∙◌}
+use mathlib.Core.Path.{◌≡◌, refl, ap, ◌∙◌}
 use mathlib.Core.Bool.{Bool, true, false, ◌&&◌}
-use mathlib.Core.List.{List, [], ◌∷◌, map}
+use mathlib.Core.List.{[], ◌∷◌, map}
 use mathlib.Core.Logic.{◌⊎◌, inl, inr}
-use Prim.Native.Nat.{ℕ, ◌≤◌, ◌<◌}
 use native.Mathlib.Omega.{arith}
 use lib.Dec.{T, lit<}
-use lib.ListN.{length}
 use Rattle.number.specs.Bytes.{number, byte_of}
 use Rattle.float.specs.Floats.{added, subtracted, multiplied, negated, selected}
-use Rattle.isa.specs.declared.Answer.{Answer}
 use Rattle.isa.specs.Operand.{bits}
-use Rattle.isa.specs.State.{count_of, last_count}
 use Rattle.isa.specs.Effect.{touches, new_lane, after, sum}
 use Rattle.isa.specs.Enable.{mac16_enables, vecint_enables}
 use Rattle.isa.specs.Vecint as Vecint
@@ -21,7 +17,7 @@ use Rattle.isa.specs.Fms64 as Fms64
 use Rattle.isa.specs.Call.{Call, effect_of}
 use Rattle.isa.specs.Answers.{own_answer, is_done}
 use Rattle.isa.specs.Step.{done}
-use Rattle.isa.specs.Swap.{Apart, BothAdd, CountLeft, enables}
+use Rattle.isa.specs.Swap.{Apart, BothAdd, enables}
 use Rattle.isa.specs.Edges.{Edge}
 use Rattle.isa.specs.Guards.{Pin, starting}
 use Rattle.isa.specs.FloatEdges.{lane_pins, step_pins, place_pins, SumsMatter, SumsStay, sum_x, sum_y}

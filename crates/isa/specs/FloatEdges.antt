@@ -1,7 +1,7 @@
 -- Floats at the edges: what a lane receives in each mode, with ties, halves of the largest, subnormals, both zeros, infinities and NaNs of both
 -- signs; what reaches a lane; and two sums that no swap exchanges.
 -- Assumes nothing.
-use Rattle.std.specs.Prelude.{◌≡◌, false, List, [], ◌∷◌, ◌++◌, ℕ, zero, suc, ◌+◌, ◌*◌, ◌/◌, ◌%◌, ◌^◌, ℤ, pos, length}
+use Rattle.std.specs.Prelude.{◌≡◌, List, [], ◌∷◌, ◌++◌, ℕ, zero, suc, ◌+◌, ◌*◌, ◌/◌, ◌%◌, ◌^◌, pos, length}
 use Rattle.std.specs.Float.{binary32, binary64}
 use Rattle.number.specs.Bytes.{number}
 use Rattle.isa.specs.Operand.{bit}

@@ -1,6 +1,6 @@
 -- What is computed of finite values is no NaN.
 -- Assumes nothing.
-use mathlib.Core.Path.{◌≡◌, refl, sym, ap, ◌∙◌, subst}
+use mathlib.Core.Path.{◌≡◌, refl, sym, subst}
 use mathlib.Core.Bool.{Bool, true, false, cond, not, ◌&&◌, beq}
 use mathlib.Core.List.{List}
 use mathlib.Core.Logic.{⊎_elim}
@@ -14,7 +14,7 @@ use lib.Ieee.Exact.{HasValue}
 use lib.ListN.{get_or}
 use borrow.Author.Tests.{ne_eqb}
 use Rattle.number.proofs.Tests.{pick_false, lt_or_le}
-use Rattle.float.specs.Floats.{Value, finite, whole, sign_of, value_of, infinity}
+use Rattle.float.specs.Floats.{Value, finite, whole, sign_of, value_of}
 use Rattle.lanes.specs.Lanes.{Finite, AllFinite}
 use Rattle.float.proofs.Nans.{read_number}
 use Rattle.float.proofs.Meant.{Is, read, negated-is}

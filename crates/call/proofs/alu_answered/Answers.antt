@@ -3,7 +3,6 @@ use mathlib.Core.Bool.{not}
 use borrow.Author.Tests.{eq-eqb, ne_eqb}
 use Rattle.isa.specs.Answers.{later_mode}
 use Rattle.call.proofs.Rows.{row-bits, row-mode, row-later, row-not-covered, row_done}
-use borrow.Author.Rules.{rules}
 use Rattle.call.proofs.alu_answered.Goals as goal
 
 pub returns-then-field-ne0 : goal.returns-then-field-ne0

@@ -1,6 +1,5 @@
 use mathlib.Core.Path.{sym, ap, ◌∙◌}
 use Rattle.call.proofs.Rows.{first-length, first-generation, first-instruction, first-last, first-serial, first-asked, asked_answer}
-use borrow.Author.Rules.{rules}
 use Rattle.call.proofs.answered.Goals as goal
 
 pub returns-then-length-ne5128 : goal.returns-then-length-ne5128

@@ -1,6 +1,5 @@
 use mathlib.Core.Path.{sym, ap, ◌∙◌}
 use Rattle.call.proofs.Rows.{asked_answer, not-asked}
-use borrow.Author.Rules.{rules}
 use Rattle.call.proofs.asked.Goals as goal
 
 pub returns-then-instruction-eq18 : goal.returns-then-instruction-eq18

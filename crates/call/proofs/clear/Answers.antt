@@ -1,6 +1,5 @@
 use native.Mathlib.Omega.{arith}
 use Rattle.call.proofs.Clears.{clear-past, clear-fits, clear-some}
-use borrow.Author.Rules.{rules}
 use Rattle.call.proofs.clear.Goals as goal
 
 pub returns-then-first-gt63 : goal.returns-then-first-gt63

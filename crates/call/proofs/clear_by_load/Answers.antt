@@ -1,6 +1,5 @@
 use mathlib.Core.Path.{refl}
 use Rattle.call.proofs.Clears.{next-if}
-use borrow.Author.Rules.{rules}
 use Rattle.call.proofs.clear_by_load.Goals as goal
 
 pub returns : goal.returns

@@ -1,7 +1,6 @@
 use lib.Dec.{eqb}
 use mathlib.Core.Path.{refl}
 use Rattle.call.proofs.Clears.{next-if}
-use borrow.Author.Rules.{rules}
 use Rattle.call.proofs.clear_by_rows.Goals as goal
 
 pub returns : goal.returns

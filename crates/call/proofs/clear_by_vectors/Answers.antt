@@ -3,7 +3,6 @@ use lib.Dec.{eqb}
 use Rattle.isa.specs.Operand.{bit}
 use Rattle.isa.specs.Vecint as Vecint
 use Rattle.call.proofs.Clears.{vectors-several, vectors-one}
-use borrow.Author.Rules.{rules}
 use Rattle.call.proofs.clear_by_vectors.Goals as goal
 
 pub returns-then-several : goal.returns-then-several

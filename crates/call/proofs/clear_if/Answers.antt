@@ -1,6 +1,5 @@
 use mathlib.Core.Path.{sym, ◌∙◌}
 use Rattle.number.proofs.Tests.{pick_true, pick_false}
-use borrow.Author.Rules.{rules}
 use Rattle.call.proofs.clear_if.Goals as goal
 
 pub returns-then-on : goal.returns-then-on

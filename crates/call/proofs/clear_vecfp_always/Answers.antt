@@ -1,5 +1,4 @@
 use Rattle.call.proofs.Clears.{next}
-use borrow.Author.Rules.{rules}
 use Rattle.call.proofs.clear_vecfp_always.Goals as goal
 
 pub returns : goal.returns

@@ -1,6 +1,5 @@
 use mathlib.Core.Path.{refl, sym, ◌∙◌}
 use Rattle.call.proofs.Rows.{double-answered}
-use borrow.Author.Rules.{rules}
 use Rattle.call.proofs.fms64_answered.Goals as goal
 
 pub returns-then-flag : goal.returns-then-flag

@@ -1,6 +1,5 @@
 use mathlib.Core.Path.{sym, ◌∙◌}
 use Rattle.call.proofs.Clears.{double-parts}
-use borrow.Author.Rules.{rules}
 use Rattle.call.proofs.fms64_operand.Goals as goal
 
 pub returns-then-flag : goal.returns-then-flag

@@ -2,7 +2,6 @@ use mathlib.Core.Path.{sym, ◌∙◌}
 use Rattle.isa.specs.Mac16 as Mac16
 use Rattle.number.proofs.Tests.{pick_true, pick_false}
 use Rattle.call.proofs.Clears.{by_form, next}
-use borrow.Author.Rules.{rules}
 use Rattle.call.proofs.mac16_operand.Goals as goal
 
 pub returns-then-flag : goal.returns-then-flag

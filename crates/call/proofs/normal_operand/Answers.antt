@@ -3,7 +3,6 @@ use Prim.Native.Nat.{ℕ}
 use Rattle.isa.specs.Call.{Instruction, call}
 use Rattle.isa.specs.Normal.{ignored_by, cleared_all, normal_operand}
 use Rattle.call.proofs.Rows.{is-other}
-use borrow.Author.Rules.{rules}
 use Rattle.call.proofs.normal_operand.Goals as goal
 
 pub returns-then-instruction-eq14 : goal.returns-then-instruction-eq14

@@ -3,7 +3,6 @@ use mathlib.Core.Bool.{not}
 use Prim.Native.Nat.{ℕ}
 use lib.Dec.{eqb}
 use Rattle.call.proofs.Rows.{not-outside, outside}
-use borrow.Author.Rules.{rules}
 use Rattle.call.proofs.not_covered.Goals as goal
 
 pub returns-then-reduces : goal.returns-then-reduces

@@ -1,6 +1,5 @@
 use mathlib.Core.Path.{sym, ◌∙◌}
 use Rattle.call.proofs.Rows.{own-generation, own-instruction, own-asked}
-use borrow.Author.Rules.{rules}
 use Rattle.call.proofs.own_answered.Goals as goal
 
 pub returns-then-neither : goal.returns-then-neither

@@ -3,7 +3,6 @@ use mathlib.Core.Bool.{Bool}
 use Rattle.isa.specs.declared.Answer.TheVariants.{Done}
 use Rattle.isa.specs.Vecfp as Vecfp
 use Rattle.isa.specs.Answers.{alu_rows, first_of}
-use borrow.Author.Rules.{rules}
 use Rattle.call.proofs.vecfp_answered.Goals as goal
 
 pub returns : goal.returns

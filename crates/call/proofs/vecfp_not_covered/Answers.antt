@@ -2,10 +2,8 @@ use mathlib.Core.Path.{refl, sym, ap, ◌∙◌}
 use mathlib.Core.Bool.{not}
 use Prim.Native.Nat.{ℕ}
 use lib.Dec.{eqb}
-use borrow.Author.Tests.{not-true, not-false}
 use Rattle.isa.specs.Vecfp as Vecfp
 use Rattle.call.proofs.Rows.{float_not_covered}
-use borrow.Author.Rules.{rules}
 use Rattle.call.proofs.vecfp_not_covered.Goals as goal
 
 pub returns-then-flag : goal.returns-then-flag

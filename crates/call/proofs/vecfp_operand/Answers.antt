@@ -1,5 +1,4 @@
 use Rattle.call.proofs.Clears.{float_parts}
-use borrow.Author.Rules.{rules}
 use Rattle.call.proofs.vecfp_operand.Goals as goal
 
 pub returns : goal.returns

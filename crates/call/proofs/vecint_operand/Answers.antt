@@ -1,5 +1,4 @@
 use Rattle.call.proofs.Clears.{by_parts}
-use borrow.Author.Rules.{rules}
 use Rattle.call.proofs.vecint_operand.Goals as goal
 
 pub returns : goal.returns

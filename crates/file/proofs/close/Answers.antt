@@ -1,8 +1,6 @@
 use mathlib.Core.Path.{subst}
 use Prim.Native.Nat.{ℕ, ◌≤◌, ◌<◌}
-use borrow.Author.Tests.{not-true, not-false}
 use Rattle.file.proofs.Heads.{close_other, close-consumed, close-padding, close-steps}
-use borrow.Author.Rules.{rules}
 use Rattle.file.proofs.close.Goals as goal
 
 pub returns-then-last-ne5132 : goal.returns-then-last-ne5132

@@ -1,7 +1,6 @@
 use mathlib.Core.Path.{sym, ◌∙◌}
 use native.Mathlib.Omega.{arith}
 use Rattle.file.proofs.Contents.{length_two, length_three}
-use borrow.Author.Rules.{rules}
 use Rattle.file.proofs.contents_length.Goals as goal
 
 pub returns-then-has_checkpoint : goal.returns-then-has_checkpoint

@@ -2,7 +2,6 @@ use mathlib.Core.Path.{ap, ◌∙◌}
 use Prim.Native.Nat.{ℕ}
 use lib.Dec.{eqb}
 use Rattle.file.proofs.Contents.{same, differ, other-kind, not-zero, other_offset, by_size}
-use borrow.Author.Rules.{rules}
 use Rattle.file.proofs.entry_is.Goals as goal
 
 pub returns-then-get16-kind : goal.returns-then-get16-kind

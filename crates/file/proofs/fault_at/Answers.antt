@@ -1,6 +1,5 @@
 use native.Mathlib.Omega.{arith}
 use Rattle.file.proofs.Sound.{fault-cut, fault-set}
-use borrow.Author.Rules.{rules}
 use Rattle.file.proofs.fault_at.Goals as goal
 
 pub returns-then-steps-i : goal.returns-then-steps-i

@@ -2,7 +2,6 @@ use mathlib.Core.Path.{◌∙◌}
 use Rattle.isa.specs.State.{state_length}
 use Rattle.file.specs.File.{bytes_from}
 use Rattle.file.proofs.States.{load-other, load_saved_lem}
-use borrow.Author.Rules.{rules}
 use Rattle.file.proofs.load_saved.Goals as goal
 
 pub returns-then-state-ne5128 : goal.returns-then-state-ne5128

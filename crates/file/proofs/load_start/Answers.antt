@@ -5,7 +5,6 @@ use lib.Seq.{sets}
 use Rattle.number.specs.Bytes.{bytes_of}
 use Rattle.file.specs.File.{start_of}
 use Rattle.file.proofs.States.{load-other, load_start_lem}
-use borrow.Author.Rules.{rules}
 use Rattle.file.proofs.load_start.Goals as goal
 
 pub returns-then-state-ne5128 : goal.returns-then-state-ne5128

@@ -1,9 +1,7 @@
 use mathlib.Core.Path.{sym, ap, ◌∙◌}
 use native.Mathlib.Omega.{arith}
-use borrow.Author.Tests.{not-true, not-false}
 use Rattle.file.specs.declared.Opened.TheVariants.{Steps}
 use Rattle.file.proofs.Heads.{head_short, head-contents, head-cut, head-steps}
-use borrow.Author.Rules.{rules}
 use Rattle.file.proofs.open.Goals as goal
 
 pub returns-then-head-contents_length : goal.returns-then-head-contents_length

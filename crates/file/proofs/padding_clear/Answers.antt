@@ -1,5 +1,4 @@
 use Rattle.file.proofs.Paddings.{pair_set, by-quartet}
-use borrow.Author.Rules.{rules}
 use Rattle.file.proofs.padding_clear.Goals as goal
 
 pub returns-then-get16-ne0 : goal.returns-then-get16-ne0

@@ -4,7 +4,6 @@ use Prim.Native.Nat.{ℕ}
 use lib.Seq.{sets}
 use Rattle.file.specs.File.{bytes_from}
 use Rattle.file.proofs.States.{store-large, store_other, store-short, store-whole}
-use borrow.Author.Rules.{rules}
 use Rattle.file.proofs.put_checkpoint.Goals as goal
 
 pub returns-then-consumed-ge4294967296 : goal.returns-then-consumed-ge4294967296

@@ -4,7 +4,6 @@ use Rattle.file.specs.declared.Record.{Record}
 use Rattle.file.specs.declared.Read.TheVariants as read
 use Rattle.file.specs.File.{cursor}
 use Rattle.file.proofs.Records.{read-end, read_past, read_step}
-use borrow.Author.Rules.{rules}
 use Rattle.file.proofs.read_record.Goals as goal
 
 pub returns-then-end-next : goal.returns-then-end-next

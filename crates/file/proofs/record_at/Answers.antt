@@ -1,7 +1,6 @@
 use mathlib.Core.Path.{ap, ◌∙◌}
 use Rattle.file.specs.File.{record_of}
 use Rattle.file.proofs.Records.{call-part}
-use borrow.Author.Rules.{rules}
 use Rattle.file.proofs.record_at.Goals as goal
 
 pub returns : goal.returns

@@ -1,5 +1,4 @@
 use Rattle.file.proofs.Records.{record_same}
-use borrow.Author.Rules.{rules}
 use Rattle.file.proofs.record_in.Goals as goal
 
 pub returns : goal.returns

@@ -1,10 +1,9 @@
 use mathlib.Core.Path.{refl, ◌∙◌}
 use Prim.Native.Nat.{◌+◌, ◌*◌}
 use native.Mathlib.Omega.{arith}
-use borrow.Author.Tests.{not-true, not-false, le-leb, lt-leb}
+use borrow.Author.Tests.{le-leb, lt-leb}
 use Rattle.file.specs.File.{most_steps, step_count, entry_is}
 use Rattle.file.proofs.Contents.{entry_by, too_many, other-first, by-second}
-use borrow.Author.Rules.{rules}
 use Rattle.file.proofs.sections_right.Goals as goal
 
 pub returns-then-n-gt1000000 : goal.returns-then-n-gt1000000

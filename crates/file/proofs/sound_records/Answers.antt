@@ -1,10 +1,6 @@
-use mathlib.Core.Path.{◌≡◌, sym, ◌∙◌}
-use Prim.Native.Nat.{◌-◌, ◌≤◌}
+use mathlib.Core.Path.{sym, ◌∙◌}
 use native.Mathlib.Omega.{arith}
-use borrow.Author.Tests.{not-true, not-false}
-use Rattle.file.specs.File.{sound_in}
 use Rattle.file.proofs.Sound.{sound-there, sound-cut, sound-set, sound_none, sound-next, sound-stop, sound-all}
-use borrow.Author.Rules.{rules}
 use Rattle.file.proofs.sound_records.Goals as goal
 
 pub loop-i-init : goal.loop-i-init

@@ -1,10 +1,6 @@
-use mathlib.Core.Path.{◌≡◌, sym, ◌∙◌}
+use mathlib.Core.Path.{◌≡◌}
 use Prim.Native.Nat.{◌-◌, ◌≤◌}
-use native.Mathlib.Omega.{arith}
-use borrow.Author.Tests.{not-true, not-false}
 use Rattle.file.specs.File.{sound_in}
-use Rattle.file.proofs.Sound.{sound-there, sound-cut, sound-set, sound_none, sound-next, sound-stop, sound-all}
-use borrow.Author.Rules.{rules}
 use Rattle.file.proofs.sound_records.Given as goal
 
 abbrev pub invariant-loop-i : goal.invariant-loop-i

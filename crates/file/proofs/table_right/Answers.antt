@@ -2,10 +2,8 @@ use mathlib.Core.Path.{sym, ap, ◌∙◌}
 use Prim.Native.Nat.{ℕ}
 use native.Mathlib.Omega.{arith}
 use lib.Dec.{eqb}
-use borrow.Author.Tests.{not-true, not-false}
 use Rattle.file.specs.File.{entry_is}
 use Rattle.file.proofs.Contents.{length_most, sections-most, table-other, table-three, table-two}
-use borrow.Author.Rules.{rules}
 use Rattle.file.proofs.table_right.Goals as goal
 
 pub returns-then-not-sections_right : goal.returns-then-not-sections_right

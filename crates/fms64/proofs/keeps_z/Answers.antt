@@ -1,6 +1,5 @@
 use Rattle.number.proofs.Tests.{pick_true, pick_false}
 use mathlib.Core.Path.{sym, ◌∙◌}
-use borrow.Author.Rules.{rules}
 use Rattle.fms64.proofs.keeps_z.Goals as goal
 
 pub returns-then-flag : goal.returns-then-flag

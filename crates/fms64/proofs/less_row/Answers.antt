@@ -1,5 +1,4 @@
 use Rattle.fms64.proofs.Rows.{negated-row, subtracted-row}
-use borrow.Author.Rules.{rules}
 use Rattle.fms64.proofs.less_row.Goals as goal
 
 pub returns-then-skipz : goal.returns-then-skipz

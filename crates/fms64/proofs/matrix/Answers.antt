@@ -1,10 +1,7 @@
-use Rattle.fms64.proofs.Rows.{Done, done_none, matrix-turn, done_all}
-use Rattle.state.proofs.Holds.{Bytes}
-use lib.ListN.{length}
-use Prim.Native.Nat.{◌*◌, ◌-◌, ◌≤◌}
+use Rattle.fms64.proofs.Rows.{done_none, matrix-turn, done_all}
+use Prim.Native.Nat.{◌*◌}
 use native.Mathlib.Omega.{arith}
-use mathlib.Core.Path.{◌≡◌, sym, ◌∙◌}
-use borrow.Author.Rules.{rules}
+use mathlib.Core.Path.{sym, ◌∙◌}
 use Rattle.fms64.proofs.matrix.Goals as goal
 
 pub loop-j-init : goal.loop-j-init

@@ -1,10 +1,8 @@
-use Rattle.fms64.proofs.Rows.{Done, done_none, matrix-turn, done_all}
+use Rattle.fms64.proofs.Rows.{Done}
 use Rattle.state.proofs.Holds.{Bytes}
 use lib.ListN.{length}
 use Prim.Native.Nat.{◌*◌, ◌-◌, ◌≤◌}
-use native.Mathlib.Omega.{arith}
-use mathlib.Core.Path.{◌≡◌, sym, ◌∙◌}
-use borrow.Author.Rules.{rules}
+use mathlib.Core.Path.{◌≡◌}
 use Rattle.fms64.proofs.matrix.Given as goal
 
 abbrev pub invariant-loop-j : goal.invariant-loop-j

@@ -1,10 +1,6 @@
 use Rattle.fms64.proofs.Rows.{own-terms, same-term}
 use Rattle.number.proofs.Tests.{pick_false}
-use borrow.Author.Tests.{not-true, not-false}
-use lib.ListN.{get_or}
-use mathlib.Core.Bool.{false}
 use mathlib.Core.Path.{sym}
-use borrow.Author.Rules.{rules}
 use Rattle.fms64.proofs.matrix_row.Goals as goal
 
 pub returns-then-not-yon-j : goal.returns-then-not-yon-j

@@ -1,7 +1,6 @@
 use Rattle.fms64.proofs.Meant.{kept-meant}
 use Rattle.fms64.proofs.Whole.{matrix-is}
 use mathlib.Core.Path.{sym, ◌∙◌}
-use borrow.Author.Rules.{rules}
 use Rattle.fms64.proofs.matrix_rows.Goals as goal
 
 pub returns-then-keeps_z : goal.returns-then-keeps_z

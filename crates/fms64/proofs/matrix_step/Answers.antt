@@ -2,7 +2,6 @@ use Rattle.fms64.proofs.Whole.{matrix-count}
 use Prim.Native.Nat.{◌*◌, ◌≤◌}
 use native.Mathlib.Nat.{mul-le-mul}
 use native.Mathlib.Omega.{arith}
-use borrow.Author.Rules.{rules}
 use Rattle.fms64.proofs.matrix_step.Goals as goal
 
 pub overflow_mul-result : goal.overflow_mul-result

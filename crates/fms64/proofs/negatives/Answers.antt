@@ -1,11 +1,7 @@
-use Rattle.number.proofs.Fill.{Filling, filling-none, filling-more, filling-all}
-use Rattle.float.specs.Floats.{negated}
-use lib.Ieee.{binary64}
-use lib.ListN.{get_or, replicate}
-use Prim.Native.Nat.{◌-◌}
+use Rattle.number.proofs.Fill.{filling-none, filling-more, filling-all}
+use lib.ListN.{replicate}
 use native.Mathlib.Omega.{arith}
 use mathlib.Core.Path.{refl}
-use borrow.Author.Rules.{rules}
 use Rattle.fms64.proofs.negatives.Goals as goal
 
 pub loop-l-init : goal.loop-l-init

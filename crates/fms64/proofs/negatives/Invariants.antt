@@ -1,11 +1,8 @@
-use Rattle.number.proofs.Fill.{Filling, filling-none, filling-more, filling-all}
+use Rattle.number.proofs.Fill.{Filling}
 use Rattle.float.specs.Floats.{negated}
 use lib.Ieee.{binary64}
-use lib.ListN.{get_or, replicate}
+use lib.ListN.{get_or}
 use Prim.Native.Nat.{◌-◌}
-use native.Mathlib.Omega.{arith}
-use mathlib.Core.Path.{refl}
-use borrow.Author.Rules.{rules}
 use Rattle.fms64.proofs.negatives.Given as goal
 
 abbrev pub invariant-loop-l : goal.invariant-loop-l

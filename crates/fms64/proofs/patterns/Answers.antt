@@ -2,7 +2,6 @@ use Rattle.state.proofs.Numbers.{words_of}
 use Rattle.isa.specs.State.{x_base, y_base, loaded}
 use mathlib.Core.Bool.{cond}
 use mathlib.Core.Path.{refl}
-use borrow.Author.Rules.{rules}
 use Rattle.fms64.proofs.patterns.Goals as goal
 
 pub returns : goal.returns

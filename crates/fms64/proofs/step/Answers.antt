@@ -3,7 +3,6 @@ use Rattle.number.proofs.Tests.{pick_false}
 use borrow.Author.Tests.{ne_eqb}
 use lib.ListN.{length}
 use mathlib.Core.Path.{sym, ◌∙◌}
-use borrow.Author.Rules.{rules}
 use Rattle.fms64.proofs.step.Goals as goal
 
 pub returns-then-state-ne5120 : goal.returns-then-state-ne5120

@@ -1,7 +1,6 @@
 use Rattle.fms64.proofs.Meant.{no-terms, x-terms, y-terms}
 use lib.ListN.{replicate}
 use mathlib.Core.Path.{refl, sym, ◌∙◌}
-use borrow.Author.Rules.{rules}
 use Rattle.fms64.proofs.terms.Goals as goal
 
 pub returns-then-flag-2 : goal.returns-then-flag-2

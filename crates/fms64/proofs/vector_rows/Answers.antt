@@ -1,7 +1,6 @@
 use Rattle.fms64.proofs.Meant.{kept-meant}
 use Rattle.fms64.proofs.Whole.{vector-is}
 use mathlib.Core.Path.{sym, ◌∙◌}
-use borrow.Author.Rules.{rules}
 use Rattle.fms64.proofs.vector_rows.Goals as goal
 
 pub returns-then-keeps_z : goal.returns-then-keeps_z

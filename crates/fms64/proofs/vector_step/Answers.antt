@@ -1,5 +1,4 @@
 use Rattle.fms64.proofs.Whole.{vector-count}
-use borrow.Author.Rules.{rules}
 use Rattle.fms64.proofs.vector_step.Goals as goal
 
 pub returns : goal.returns

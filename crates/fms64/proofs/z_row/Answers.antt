@@ -1,6 +1,5 @@
 use Rattle.operand.proofs.Fields.{bits-lt}
 use native.Mathlib.Omega.{arith}
-use borrow.Author.Rules.{rules}
 use Rattle.fms64.proofs.z_row.Goals as goal
 
 pub returns : goal.returns

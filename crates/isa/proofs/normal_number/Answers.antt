@@ -1,4 +1,3 @@
-use borrow.Author.Rules.{rules}
 use Rattle.isa.proofs.normal_number.Goals as goal
 
 pub returns-in-NoOp : goal.returns-in-NoOp

@@ -1,9 +1,7 @@
-use Prim.Native.Nat.{◌-◌, ◌≤◌}
 use native.Mathlib.Omega.{arith}
 use lib.Ieee.{binary64}
-use borrow.Author.Rules.{rules}
 use borrow.Author.Tests.{eqb-true}
-use Rattle.lanes.proofs.Finite.{Counted, counted_none, counted-more}
+use Rattle.lanes.proofs.Finite.{counted_none, counted-more}
 use Rattle.lanes.proofs.finite64.Goals as goal
 
 pub loop-l-init : goal.loop-l-init

@@ -1,9 +1,6 @@
 use Prim.Native.Nat.{◌-◌, ◌≤◌}
-use native.Mathlib.Omega.{arith}
 use lib.Ieee.{binary64}
-use borrow.Author.Rules.{rules}
-use borrow.Author.Tests.{eqb-true}
-use Rattle.lanes.proofs.Finite.{Counted, counted_none, counted-more}
+use Rattle.lanes.proofs.Finite.{Counted}
 use Rattle.lanes.proofs.finite64.Given as goal
 
 abbrev pub invariant-loop-l : goal.invariant-loop-l

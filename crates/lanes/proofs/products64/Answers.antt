@@ -1,12 +1,7 @@
 use mathlib.Core.Path.{refl}
-use Prim.Native.Nat.{◌-◌}
 use native.Mathlib.Omega.{arith}
-use lib.Ieee.{binary64}
 use lib.ListN.{replicate}
-use borrow.Author.Rules.{rules}
-use Rattle.number.proofs.Fill.{Filling, filling-none, filling-more, filling-all}
-use Rattle.float.specs.Floats.{multiplied}
-use Rattle.lanes.specs.Lanes.{each}
+use Rattle.number.proofs.Fill.{filling-none, filling-more, filling-all}
 use Rattle.lanes.proofs.products64.Goals as goal
 
 pub finite_products64-requires : goal.finite_products64-requires

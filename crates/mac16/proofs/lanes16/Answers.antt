@@ -1,18 +1,17 @@
-use borrow.Author.Rules.{rules}
 use Rattle.isa.specs.Mac16 as Mac16
 use Rattle.number.proofs.Slice.{two_bytes}
 use Rattle.number.specs.Integers.{signed}
 use Rattle.number.specs.Bytes.{byte_at}
-use Rattle.number.proofs.Fill.{Filled, fill_more, fill-all}
+use Rattle.number.proofs.Fill.{fill_more, fill-all}
 use native.Mathlib.Nat.{not-suc-le-zero}
 use mathlib.Core.Bool.{false}
 use lib.IntN.{pos}
-use lib.ListN.{length, length-set}
-use Prim.Native.Nat.{◌*◌, ◌-◌, ◌≤◌}
+use lib.ListN.{length-set}
+use Prim.Native.Nat.{◌*◌}
 use mir.Facts.{to_z-of_z}
 use borrow.Author.Rules.{sfits_of}
 use native.Mathlib.Omega.{arith}
-use mathlib.Core.Path.{◌≡◌, refl, ap, ◌∙◌}
+use mathlib.Core.Path.{refl, ap, ◌∙◌}
 use mir.Syntax.{w16}
 use Rattle.mac16.proofs.lanes16.Goals as goal
 

@@ -1,16 +1,14 @@
-use borrow.Author.Rules.{rules}
 use Rattle.mac16.specs.Products.{masked}
-use Rattle.number.proofs.Fill.{Filled, fill_more, fill-all}
+use Rattle.number.proofs.Fill.{fill_more, fill-all}
 use native.Mathlib.Nat.{not-suc-le-zero}
 use mathlib.Core.Bool.{false, cond}
 use lib.IntN.{ℤ, pos}
-use lib.ListN.{length, get_or, length-set}
-use Prim.Native.Nat.{◌-◌, ◌≤◌}
+use lib.ListN.{get_or, length-set}
 use mir.Syntax.{w16}
 use mir.Facts.{to_z-of_z}
 use borrow.Author.Rules.{sfits_of}
 use native.Mathlib.Omega.{arith}
-use mathlib.Core.Path.{◌≡◌, refl, ap, ◌∙◌}
+use mathlib.Core.Path.{refl, ap, ◌∙◌}
 use mir.Syntax.{w16}
 use Rattle.mac16.proofs.masked_by.Goals as goal
 

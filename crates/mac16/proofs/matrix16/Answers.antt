@@ -1,13 +1,10 @@
-use borrow.Author.Rules.{rules}
-use Rattle.mac16.proofs.Rows.{Done16, matrix16-turn}
+use Rattle.mac16.proofs.Rows.{matrix16-turn}
 use Rattle.mac16.specs.Products.{products}
 use Rattle.state.proofs.RowsLoop.{rows_start, rows_end}
-use Rattle.state.proofs.Holds.{Bytes}
 use Rattle.isa.specs.Mac16 as Mac16
-use lib.ListN.{length}
-use Prim.Native.Nat.{◌*◌, ◌-◌, ◌%◌, ◌≤◌, ◌<◌}
+use Prim.Native.Nat.{◌*◌, ◌%◌}
 use native.Mathlib.Omega.{arith}
-use mathlib.Core.Path.{◌≡◌, refl, sym, ◌∙◌}
+use mathlib.Core.Path.{refl, sym, ◌∙◌}
 use Rattle.mac16.proofs.matrix16.Goals as goal
 
 pub loop-j-init : goal.loop-j-init

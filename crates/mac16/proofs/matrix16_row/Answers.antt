@@ -1,17 +1,15 @@
-use borrow.Author.Tests.{not-true, not-false, eq-eqb}
+use borrow.Author.Tests.{eq-eqb}
 use Rattle.mac16.specs.Products.{row_terms}
 use Rattle.state.specs.Rows.{run_sum}
 use Rattle.isa.specs.Effect.{applied}
-use mathlib.Core.Bool.{false}
 use lib.IntN.{ℤ}
-use lib.ListN.{length, get_or, replicate}
+use lib.ListN.{length, replicate}
 use Prim.Native.Nat.{◌+◌, ◌*◌, ◌%◌}
 use Rattle.number.proofs.Tests.{pick_true, pick_false}
 use mir.Syntax.{w16}
 use mir.Facts.{to_z-of_z}
 use borrow.Author.Rules.{sfits_of}
 use mathlib.Core.Path.{sym, ap, ◌∙◌}
-use borrow.Author.Rules.{rules}
 use Rattle.mac16.proofs.matrix16_row.Goals as goal
 
 pub returns-then-not-yon-j : goal.returns-then-not-yon-j

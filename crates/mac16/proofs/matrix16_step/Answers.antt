@@ -5,7 +5,6 @@ use Rattle.isa.specs.Mac16 as Mac16
 use Rattle.masks.proofs.Lanes.{lanes-of_rule}
 use Rattle.mac16.proofs.Counts.{count-matrix16}
 use Rattle.mac16.proofs.Whole.{matrix16-is, matrix-count}
-use borrow.Author.Rules.{rules}
 use Rattle.mac16.proofs.matrix16_step.Goals as goal
 
 pub returns : goal.returns

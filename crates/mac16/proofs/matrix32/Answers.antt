@@ -1,11 +1,9 @@
-use borrow.Author.Rules.{rules}
 use Rattle.mac16.proofs.Sides.{split-masked}
-use Rattle.mac16.proofs.Rows.{Done32, matrix32-turn}
+use Rattle.mac16.proofs.Rows.{matrix32-turn}
 use Rattle.mac16.specs.Products.{masked, products}
 use Rattle.state.proofs.RowsLoop.{rows_start, rows_end}
-use Rattle.state.proofs.Holds.{Bytes}
 use Rattle.isa.specs.Mac16 as Mac16
-use Prim.Native.Nat.{◌*◌, ◌-◌, ◌%◌, ◌≤◌}
+use Prim.Native.Nat.{◌*◌, ◌%◌}
 use native.Mathlib.Omega.{arith}
 use mathlib.Core.Path.{refl, sym, ap₂, ◌∙◌}
 use Rattle.mac16.proofs.matrix32.Goals as goal

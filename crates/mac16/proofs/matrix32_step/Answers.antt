@@ -5,7 +5,6 @@ use Rattle.masks.proofs.Lanes.{lanes-of_rule}
 use Rattle.mac16.specs.Products.{masked}
 use Rattle.mac16.proofs.Counts.{count-matrix32}
 use Rattle.mac16.proofs.Whole.{matrix32-is, matrix-count}
-use borrow.Author.Rules.{rules}
 use Rattle.mac16.proofs.matrix32_step.Goals as goal
 
 pub returns : goal.returns

@@ -2,7 +2,6 @@ use Prim.Native.Nat.{◌*◌, ◌≤◌}
 use native.Mathlib.Nat.{mul-le-mul}
 use native.Mathlib.Omega.{arith}
 use Rattle.mac16.proofs.Whole.{below-product}
-use borrow.Author.Rules.{rules}
 use Rattle.mac16.proofs.matrix_bytes.Goals as goal
 
 pub overflow_mul-result : goal.overflow_mul-result

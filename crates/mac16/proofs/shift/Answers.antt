@@ -1,6 +1,5 @@
 use Rattle.operand.proofs.Fields.{bits-lt}
 use native.Mathlib.Omega.{arith}
-use borrow.Author.Rules.{rules}
 use Rattle.mac16.proofs.shift.Goals as goal
 
 pub overflow_cast-result : goal.overflow_cast-result

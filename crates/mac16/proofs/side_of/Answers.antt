@@ -3,7 +3,6 @@ use mir.Facts.{to_z-of_z}
 use lib.ListN.{replicate}
 use mathlib.Core.Bool.{true, false}
 use Rattle.mac16.proofs.Sides.{same-all, side-skipped, side-lanes}
-use borrow.Author.Rules.{rules}
 use Rattle.mac16.proofs.side_of.Goals as goal
 
 pub returns-then-skip : goal.returns-then-skip

@@ -1,15 +1,14 @@
-use borrow.Author.Rules.{rules}
 use Rattle.mac16.specs.Products.{split}
-use Rattle.number.proofs.Fill.{Filled, fill_more, fill-all}
+use Rattle.number.proofs.Fill.{fill_more, fill-all}
 use native.Mathlib.Nat.{not-suc-le-zero}
 use lib.IntN.{pos}
-use lib.ListN.{length, get_or, length-set}
-use Prim.Native.Nat.{◌+◌, ◌*◌, ◌-◌, ◌/◌, ◌%◌, ◌≤◌}
+use lib.ListN.{get_or, length-set}
+use Prim.Native.Nat.{◌+◌, ◌*◌, ◌/◌, ◌%◌}
 use mir.Syntax.{w16}
 use mir.Facts.{to_z-of_z}
 use borrow.Author.Rules.{sfits_of}
 use native.Mathlib.Omega.{arith}
-use mathlib.Core.Path.{◌≡◌, refl}
+use mathlib.Core.Path.{refl}
 use Rattle.mac16.proofs.split_lanes.Goals as goal
 
 pub loop-k-init : goal.loop-k-init

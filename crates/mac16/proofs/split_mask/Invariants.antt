@@ -1,12 +1,8 @@
-use borrow.Author.Rules.{rules}
-use Rattle.mac16.specs.Products.{split}
-use Rattle.number.proofs.Fill.{Filled, fill_more, fill-all}
-use native.Mathlib.Nat.{not-suc-le-zero}
+use Rattle.number.proofs.Fill.{Filled}
 use mathlib.Core.Bool.{false}
-use lib.ListN.{length, get_or, length-set}
+use lib.ListN.{length, get_or}
 use Prim.Native.Nat.{◌+◌, ◌*◌, ◌-◌, ◌/◌, ◌%◌, ◌≤◌}
-use native.Mathlib.Omega.{arith}
-use mathlib.Core.Path.{◌≡◌, refl}
+use mathlib.Core.Path.{◌≡◌}
 use Rattle.mac16.proofs.split_mask.Given as goal
 
 abbrev pub invariant-loop-k : goal.invariant-loop-k

@@ -5,7 +5,6 @@ use Prim.Native.Nat.{◌%◌, ◌^◌}
 use mir.Facts.{to_z-of_z}
 use borrow.Author.Rules.{sfits_of}
 use mathlib.Core.Path.{ap, ap₂, ◌∙◌}
-use borrow.Author.Rules.{rules}
 use mir.Syntax.{w64}
 use Rattle.mac16.proofs.term32.Goals as goal
 

@@ -1,15 +1,9 @@
-use borrow.Author.Rules.{rules}
-use Rattle.mac16.specs.Products.{term, row_terms}
-use Rattle.number.proofs.Fill.{Filled, fill_more, fill-all}
+use Rattle.mac16.specs.Products.{term}
+use Rattle.number.proofs.Fill.{Filled}
 use lib.IntN.{pos}
-use native.Mathlib.Nat.{not-suc-le-zero}
-use lib.ListN.{length, get_or, length-set}
+use lib.ListN.{length, get_or}
 use Prim.Native.Nat.{◌-◌, ◌%◌, ◌≤◌}
-use mir.Syntax.{w16}
-use mir.Facts.{to_z-of_z}
-use borrow.Author.Rules.{sfits_of}
-use native.Mathlib.Omega.{arith}
-use mathlib.Core.Path.{◌≡◌, refl, ap₂, ◌∙◌}
+use mathlib.Core.Path.{◌≡◌}
 use Rattle.mac16.proofs.terms16.Given as goal
 
 abbrev pub invariant-loop-i : goal.invariant-loop-i

@@ -2,7 +2,6 @@ use native.Mathlib.Omega.{arith}
 use Rattle.isa.specs.Mac16 as Mac16
 use Rattle.masks.proofs.Lanes.{lanes-of_rule}
 use Rattle.mac16.proofs.Whole.{vector-is, vector-count}
-use borrow.Author.Rules.{rules}
 use Rattle.mac16.proofs.vector_step.Goals as goal
 
 pub returns : goal.returns

@@ -1,6 +1,5 @@
 use mathlib.Core.Path.{ap, ◌∙◌}
 use Rattle.mac16.specs.Products.{masked}
-use borrow.Author.Rules.{rules}
 use Rattle.mac16.proofs.x_factors.Goals as goal
 
 pub returns : goal.returns

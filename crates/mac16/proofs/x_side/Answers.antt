@@ -1,7 +1,6 @@
 use borrow.Author.Rules.{sfits_of}
 use mir.Facts.{to_z-of_z}
 use Rattle.mac16.proofs.Sides.{x-side-is}
-use borrow.Author.Rules.{rules}
 use Rattle.mac16.proofs.x_side.Goals as goal
 
 pub returns : goal.returns

@@ -1,5 +1,4 @@
 use Rattle.mac16.proofs.Sides.{y-factors-are}
-use borrow.Author.Rules.{rules}
 use Rattle.mac16.proofs.y_factors.Goals as goal
 
 pub returns : goal.returns

@@ -2,7 +2,6 @@ use mathlib.Core.Path.{ap₂, ◌∙◌}
 use Prim.Native.Nat.{ℕ}
 use Rattle.isa.specs.Enable.{mac16_enables}
 use Rattle.masks.specs.Mask.{mask_of}
-use borrow.Author.Rules.{rules}
 use Rattle.mac16.proofs.y_mask.Goals as goal
 
 pub returns : goal.returns

@@ -1,6 +1,5 @@
 use mathlib.Core.Path.{refl, ◌∙◌}
 use Rattle.masks.proofs.Enabled.{all-is, even_is, by_value, other_value}
-use borrow.Author.Rules.{rules}
 use Rattle.masks.proofs.by_parity.Goals as goal
 
 pub returns-then-n-eq0 : goal.returns-then-n-eq0

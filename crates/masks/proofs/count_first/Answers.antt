@@ -3,7 +3,6 @@ use native.Mathlib.Omega.{arith}
 use Rattle.isa.specs.Operand.{bit}
 use Rattle.isa.specs.Effect.{count}
 use Rattle.masks.proofs.Mask.{counted-all, counted-some}
-use borrow.Author.Rules.{rules}
 use Rattle.masks.proofs.count_first.Goals as goal
 
 pub returns-then-mask-eq-ALL : goal.returns-then-mask-eq-ALL

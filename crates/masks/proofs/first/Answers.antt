@@ -1,6 +1,5 @@
 use Rattle.masks.proofs.Enabled.{all_first, some_lane, first-is}
 use Rattle.masks.proofs.Enabled.{all_first}
-use borrow.Author.Rules.{rules}
 use Rattle.masks.proofs.first.Goals as goal
 
 pub returns-then-n-ge64 : goal.returns-then-n-ge64

@@ -1,6 +1,5 @@
 use mathlib.Core.Path.{refl}
 use Rattle.masks.proofs.Lanes.{lane-in_word}
-use borrow.Author.Rules.{rules}
 use Rattle.masks.proofs.is_on.Goals as goal
 
 pub returns : goal.returns

@@ -1,11 +1,9 @@
 use mathlib.Core.Path.{refl}
 use mathlib.Core.Bool.{false}
-use Prim.Native.Nat.{◌-◌}
 use native.Mathlib.Omega.{arith}
-use borrow.Author.Rules.{rules}
 use Rattle.number.specs.Bytes.{table}
 use lib.ListN.{replicate}
-use Rattle.number.proofs.Fill.{Filling, filling-none, filling-more, filling-all}
+use Rattle.number.proofs.Fill.{filling-none, filling-more, filling-all}
 use Rattle.isa.specs.Operand.{bits, bit}
 use Rattle.masks.proofs.Lanes.{lanes_on}
 use Rattle.masks.proofs.lanes16.Goals as goal

@@ -1,10 +1,8 @@
 use mathlib.Core.Path.{refl}
 use mathlib.Core.Bool.{false}
-use Prim.Native.Nat.{◌-◌}
 use native.Mathlib.Omega.{arith}
-use borrow.Author.Rules.{rules}
 use lib.ListN.{replicate}
-use Rattle.number.proofs.Fill.{Filling, filling-none, filling-more, filling-all}
+use Rattle.number.proofs.Fill.{filling-none, filling-more, filling-all}
 use Rattle.isa.specs.Operand.{bit}
 use Rattle.masks.proofs.Lanes.{lane-of_all}
 use Rattle.masks.proofs.lanes32.Goals as goal

@@ -1,5 +1,4 @@
 use Rattle.masks.proofs.Enabled.{all-last, last-is}
-use borrow.Author.Rules.{rules}
 use Rattle.masks.proofs.last.Goals as goal
 
 pub returns-then-lanes-n : goal.returns-then-lanes-n

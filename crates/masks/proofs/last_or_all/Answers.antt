@@ -3,7 +3,6 @@ use mathlib.Core.Bool.{Bool, ◌||◌}
 use borrow.Author.Tests.{eq-eqb}
 use Rattle.isa.specs.Enable as Enable
 use Rattle.masks.proofs.Enabled.{all-is, not_all}
-use borrow.Author.Rules.{rules}
 use Rattle.masks.proofs.last_or_all.Goals as goal
 
 pub returns-then-n-eq0 : goal.returns-then-n-eq0

@@ -1,7 +1,6 @@
 use mathlib.Core.Path.{refl, ◌∙◌}
 use Rattle.isa.specs.Enable.{mac16_enables}
 use Rattle.masks.proofs.Enabled.{in_mode, mac16-mode_3}
-use borrow.Author.Rules.{rules}
 use Rattle.masks.proofs.mac16_mask.Goals as goal
 
 pub returns-then-mode-eq0 : goal.returns-then-mode-eq0

@@ -3,7 +3,6 @@ use native.Mathlib.Omega.{arith}
 use Rattle.isa.specs.Enable.{vecint_enables}
 use Rattle.operand.proofs.Fields.{bits-lt}
 use Rattle.masks.specs.Mask.{mask_of, lane_used}
-use borrow.Author.Rules.{rules}
 use Rattle.masks.proofs.mask_at.Goals as goal
 
 pub overflow_cast-n : goal.overflow_cast-n

@@ -1,6 +1,5 @@
 use Rattle.masks.proofs.Enabled.{only_none, only_is}
 use Rattle.masks.proofs.Enabled.{only_none}
-use borrow.Author.Rules.{rules}
 use Rattle.masks.proofs.only.Goals as goal
 
 pub returns-then-n-ge64 : goal.returns-then-n-ge64

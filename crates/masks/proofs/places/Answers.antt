@@ -1,6 +1,5 @@
 use mathlib.Core.Path.{sym}
 use Rattle.number.proofs.Tests.{pick_true}
-use borrow.Author.Rules.{rules}
 use Rattle.masks.proofs.places.Goals as goal
 
 pub returns-then-halved : goal.returns-then-halved

@@ -1,6 +1,5 @@
 use mathlib.Core.Path.{◌∙◌}
 use Rattle.masks.proofs.Vecint.{one-mask, two-masks}
-use borrow.Author.Rules.{rules}
 use Rattle.masks.proofs.sides_mask.Goals as goal
 
 pub returns-then-x-y : goal.returns-then-x-y

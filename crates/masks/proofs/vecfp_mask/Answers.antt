@@ -1,6 +1,5 @@
 use mathlib.Core.Path.{sym, ◌∙◌}
 use Rattle.masks.proofs.Vecint.{several-vecfp, some-vecfp, all-vecfp}
-use borrow.Author.Rules.{rules}
 use Rattle.masks.proofs.vecfp_mask.Goals as goal
 
 pub returns-then-several : goal.returns-then-several

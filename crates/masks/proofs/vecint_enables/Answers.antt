@@ -4,7 +4,6 @@ use Rattle.isa.specs.Enable.{vecint_enables, first, last, first_or_all, last_or_
 use Rattle.masks.specs.Mask.{mask_of}
 use Rattle.masks.proofs.Enabled.{all-is, in_mode, first-used, last-used, first-or-all-used, last-or-all-used}
 use Rattle.masks.proofs.Vecint.{rule, in-no-mode}
-use borrow.Author.Rules.{rules}
 use Rattle.masks.proofs.vecint_enables.Goals as goal
 
 pub returns-then-mode-eq0 : goal.returns-then-mode-eq0

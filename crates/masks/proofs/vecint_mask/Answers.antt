@@ -1,6 +1,5 @@
 use mathlib.Core.Path.{sym, ◌∙◌}
 use Rattle.masks.proofs.Vecint.{several-mask, all-mask, reducing-mask, two-sided-mask}
-use borrow.Author.Rules.{rules}
 use Rattle.masks.proofs.vecint_mask.Goals as goal
 
 pub returns-then-several : goal.returns-then-several

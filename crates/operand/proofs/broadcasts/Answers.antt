@@ -1,7 +1,6 @@
 use mathlib.Core.Path.{sym, ◌∙◌}
 use Rattle.isa.specs.Vecint as Vecint
 use Rattle.operand.proofs.Branches.{and_on, and_off, first-of-two, second-of-two}
-use borrow.Author.Rules.{rules}
 use Rattle.operand.proofs.broadcasts.Goals as goal
 
 pub returns-then-mode-a : goal.returns-then-mode-a

@@ -1,6 +1,5 @@
 use Rattle.operand.proofs.Fields.{field_past, field-none, field-all, field-some, some-value}
 use native.Mathlib.Omega.{arith}
-use borrow.Author.Rules.{rules}
 use Rattle.operand.proofs.field.Goals as goal
 
 pub returns-then-first-gt63 : goal.returns-then-first-gt63

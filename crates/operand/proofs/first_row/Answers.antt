@@ -1,6 +1,5 @@
 use native.Mathlib.Omega.{arith}
 use Rattle.operand.proofs.Rows.{start-le, first-row_by}
-use borrow.Author.Rules.{rules}
 use Rattle.operand.proofs.first_row.Goals as goal
 
 pub overflow_mul-start : goal.overflow_mul-start

@@ -1,7 +1,6 @@
 use mathlib.Core.Path.{ap, ◌∙◌}
 use Prim.Native.Nat.{ℕ}
 use Rattle.isa.specs.Vecint as Vecint
-use borrow.Author.Rules.{rules}
 use Rattle.operand.proofs.overrides.Goals as goal
 
 pub returns : goal.returns

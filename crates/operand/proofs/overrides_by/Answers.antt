@@ -4,7 +4,6 @@ use lib.Dec.{eqb}
 use borrow.Author.Tests.{eq-eqb, ne_eqb}
 use Rattle.number.proofs.Tests.{pick_true, pick_false}
 use Rattle.operand.proofs.Branches.{and_on, and_off}
-use borrow.Author.Rules.{rules}
 use mathlib.Core.Path.{refl}
 use Rattle.operand.proofs.overrides_by.Goals as goal
 

@@ -3,7 +3,6 @@ use Prim.Native.Nat.{ℕ}
 use Rattle.operand.specs.Packed.{packed_reduction}
 use Rattle.operand.proofs.Entries.{reduction-entry}
 use Rattle.isa.specs.Vecint as Vecint
-use borrow.Author.Rules.{rules}
 use Rattle.operand.proofs.packed_reduction.Goals as goal
 
 pub returns : goal.returns

@@ -4,7 +4,6 @@ use Rattle.operand.specs.Packed.{packed}
 use Rattle.operand.proofs.Entries.{width-entry}
 use Rattle.isa.specs.Vecint as Vecint
 use Rattle.number.proofs.Tests.{pick_true, pick_false}
-use borrow.Author.Rules.{rules}
 use Rattle.operand.proofs.packed_widths.Goals as goal
 
 pub returns-then-saturates : goal.returns-then-saturates

@@ -1,5 +1,4 @@
 use Rattle.operand.proofs.Rows.{rounded-to-2, rounded-to-4, rounded-to-1}
-use borrow.Author.Rules.{rules}
 use Rattle.operand.proofs.rounded_down.Goals as goal
 
 pub returns-then-rows-eq2 : goal.returns-then-rows-eq2

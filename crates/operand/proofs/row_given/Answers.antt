@@ -1,5 +1,4 @@
 use Rattle.operand.proofs.Rows.{given-of-16, given-of-32, given-of-64}
-use borrow.Author.Rules.{rules}
 use Rattle.operand.proofs.row_given.Goals as goal
 
 pub returns-then-rows-eq16 : goal.returns-then-rows-eq16

@@ -1,7 +1,6 @@
 use mathlib.Core.Path.{sym, ◌∙◌}
 use native.Mathlib.Omega.{arith}
 use Rattle.operand.proofs.Widths.{rows-reducing, rows-at-two, rows-at-one}
-use borrow.Author.Rules.{rules}
 use Rattle.operand.proofs.rows_each.Goals as goal
 
 pub returns-then-reduces : goal.returns-then-reduces

@@ -1,5 +1,4 @@
 use Rattle.operand.proofs.Branches.{first-of-two, second-of-two}
-use borrow.Author.Rules.{rules}
 use Rattle.operand.proofs.saturates.Goals as goal
 
 pub returns-then-mode-eq5 : goal.returns-then-mode-eq5

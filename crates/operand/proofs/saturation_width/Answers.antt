@@ -1,5 +1,4 @@
 use Rattle.operand.proofs.Widths.{saturation-digit}
-use borrow.Author.Rules.{rules}
 use Rattle.operand.proofs.saturation_width.Goals as goal
 
 pub returns : goal.returns

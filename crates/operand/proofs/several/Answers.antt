@@ -1,6 +1,5 @@
 use Rattle.operand.proofs.Branches.{and_on, and_off}
 use borrow.Author.Tests.{eq-eqb, ne_eqb}
-use borrow.Author.Rules.{rules}
 use Rattle.operand.proofs.several.Goals as goal
 
 pub returns-then-generation-eq2 : goal.returns-then-generation-eq2

@@ -2,7 +2,6 @@ use mathlib.Core.Path.{sym, ◌∙◌}
 use Rattle.number.proofs.Tests.{pick_true, pick_false}
 use Rattle.isa.specs.Vecint as Vecint
 use native.Mathlib.Omega.{arith}
-use borrow.Author.Rules.{rules}
 use Rattle.operand.proofs.stride.Goals as goal
 
 pub returns-then-flag : goal.returns-then-flag

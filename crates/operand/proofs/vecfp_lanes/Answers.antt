@@ -2,7 +2,6 @@ use native.Mathlib.Omega.{arith}
 use Rattle.isa.specs.State.{lanes_of}
 use Rattle.isa.specs.Vecfp.{width}
 use Rattle.operand.proofs.Formats.{of-single, of-double}
-use borrow.Author.Rules.{rules}
 use Rattle.operand.proofs.vecfp_lanes.Goals as goal
 
 pub returns-then-single : goal.returns-then-single

@@ -2,7 +2,6 @@ use mathlib.Core.Path.{ap, ◌∙◌}
 use Prim.Native.Nat.{ℕ}
 use Rattle.isa.specs.Vecint as Vecint
 use Rattle.isa.specs.Vecfp as Vecfp
-use borrow.Author.Rules.{rules}
 use Rattle.operand.proofs.vecfp_overrides.Goals as goal
 
 pub returns : goal.returns

@@ -2,7 +2,6 @@ use mathlib.Core.Path.{ap₂}
 use Prim.Native.Nat.{ℕ, ◌+◌, ◌*◌, ◌%◌}
 use native.Mathlib.Omega.{arith}
 use Rattle.operand.proofs.Rows.{start-le}
-use borrow.Author.Rules.{rules}
 use Rattle.operand.proofs.vecfp_row.Goals as goal
 
 pub overflow_mul-start : goal.overflow_mul-start

@@ -3,7 +3,6 @@ use Rattle.number.proofs.Tests.{pick_true, pick_false}
 use Rattle.isa.specs.Vecint as Vecint
 use native.Mathlib.Omega.{arith}
 use Rattle.operand.proofs.Fields.{bits-lt}
-use borrow.Author.Rules.{rules}
 use Rattle.operand.proofs.vecint_shift.Goals as goal
 
 pub returns-then-saturates : goal.returns-then-saturates

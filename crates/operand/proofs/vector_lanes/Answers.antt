@@ -1,7 +1,6 @@
 use mathlib.Core.Path.{sym, ◌∙◌}
 use Rattle.operand.proofs.Lanes.{lanes-by, lanes-reducing}
 use Rattle.operand.proofs.Widths.{z_width_cases, narrower-cases, lanes-dealt, one-two_or_four}
-use borrow.Author.Rules.{rules}
 use Rattle.operand.proofs.vector_lanes.Goals as goal
 
 pub returns-then-reduces : goal.returns-then-reduces

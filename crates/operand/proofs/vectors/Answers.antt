@@ -1,5 +1,4 @@
 use Rattle.operand.proofs.Rows.{four-vectors, two-vectors, one-vector}
-use borrow.Author.Rules.{rules}
 use Rattle.operand.proofs.vectors.Goals as goal
 
 pub returns-then-rows-eq16 : goal.returns-then-rows-eq16

@@ -1,6 +1,5 @@
 use native.Mathlib.Omega.{arith}
 use Rattle.operand.proofs.Fields.{bits-lt}
-use borrow.Author.Rules.{rules}
 use Rattle.operand.proofs.width_number.Goals as goal
 
 pub returns : goal.returns

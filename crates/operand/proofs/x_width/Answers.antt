@@ -1,5 +1,4 @@
 use Rattle.operand.proofs.Widths.{x-digit}
-use borrow.Author.Rules.{rules}
 use Rattle.operand.proofs.x_width.Goals as goal
 
 pub returns : goal.returns

@@ -1,5 +1,4 @@
 use Rattle.operand.proofs.Widths.{y-digit}
-use borrow.Author.Rules.{rules}
 use Rattle.operand.proofs.y_width.Goals as goal
 
 pub returns : goal.returns

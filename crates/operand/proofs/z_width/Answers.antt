@@ -1,6 +1,5 @@
 use mathlib.Core.Path.{sym, ◌∙◌}
 use Rattle.operand.proofs.Widths.{z-digit, reduced-z-digit}
-use borrow.Author.Rules.{rules}
 use Rattle.operand.proofs.z_width.Goals as goal
 
 pub returns-then-reduces : goal.returns-then-reduces

@@ -3,7 +3,6 @@ use borrow.Author.Rules.{sfits_of}
 use mathlib.Core.Path.{sym, ap, ◌∙◌}
 use mathlib.Core.Bool.{Bool}
 use Rattle.reduction.specs.Reduction.{high_end}
-use borrow.Author.Rules.{rules}
 use mir.Syntax.{w64}
 use Rattle.reduction.proofs.high.Goals as goal
 

@@ -6,7 +6,6 @@ use mir.Syntax.{w32, w64}
 use mir.Val.{SFits}
 use Rattle.number.specs.Integers.{clamp_signed}
 use Rattle.reduction.specs.Reduction.{highest, high_end}
-use borrow.Author.Rules.{rules}
 use Rattle.reduction.proofs.high32.Goals as goal
 
 pub overflow_cast-result : goal.overflow_cast-result

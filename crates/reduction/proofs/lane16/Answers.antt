@@ -1,6 +1,5 @@
 use Rattle.reduction.proofs.Cases.{stored_is}
 use mathlib.Core.Path.{◌∙◌}
-use borrow.Author.Rules.{rules}
 use Rattle.reduction.proofs.lane16.Goals as goal
 
 pub returns : goal.returns

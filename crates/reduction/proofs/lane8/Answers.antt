@@ -3,7 +3,6 @@ use mathlib.Core.Path.{◌∙◌}
 use native.Mathlib.Omega.{arith}
 use Rattle.number.specs.Bytes.{byte_at}
 use Rattle.number.proofs.Slice.{one_byte}
-use borrow.Author.Rules.{rules}
 use Rattle.reduction.proofs.lane8.Goals as goal
 
 pub returns : goal.returns

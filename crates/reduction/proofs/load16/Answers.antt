@@ -1,7 +1,6 @@
 use mathlib.Core.Path.{refl, ◌∙◌}
 use Rattle.number.specs.Bytes.{byte_at}
 use Rattle.number.proofs.Slice.{two_bytes}
-use borrow.Author.Rules.{rules}
 use Rattle.reduction.proofs.load16.Goals as goal
 
 pub returns : goal.returns

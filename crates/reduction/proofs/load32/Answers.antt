@@ -1,7 +1,6 @@
 use mathlib.Core.Path.{◌∙◌}
 use Rattle.number.specs.Bytes.{byte_at}
 use Rattle.number.proofs.Slice.{two-halves}
-use borrow.Author.Rules.{rules}
 use Rattle.reduction.proofs.load32.Goals as goal
 
 pub returns : goal.returns

@@ -2,7 +2,6 @@ use Rattle.reduction.proofs.Cases.{cast_fits, cast_is, low_fits}
 use mathlib.Core.Path.{sym, ◌∙◌, subst}
 use mir.Syntax.{w32}
 use mir.Val.{SFits}
-use borrow.Author.Rules.{rules}
 use Rattle.reduction.proofs.low32.Goals as goal
 
 pub overflow_cast-result : goal.overflow_cast-result

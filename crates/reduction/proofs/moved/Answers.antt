@@ -6,7 +6,6 @@ use mathlib.Core.Path.{ap, ◌∙◌}
 use Prim.Native.Nat.{◌%◌}
 use lib.IntN.{ℤ, ◌+ℤ◌}
 use Rattle.number.specs.Integers.{◌≫◌}
-use borrow.Author.Rules.{rules}
 use Rattle.reduction.proofs.moved.Goals as goal
 
 pub overflow_add-old : goal.overflow_add-old

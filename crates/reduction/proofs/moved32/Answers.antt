@@ -6,7 +6,6 @@ use mathlib.Core.Path.{ap, ◌∙◌}
 use Prim.Native.Nat.{◌%◌}
 use lib.IntN.{ℤ, ◌+ℤ◌}
 use Rattle.number.specs.Integers.{◌≫◌}
-use borrow.Author.Rules.{rules}
 use mir.Syntax.{w32}
 use Rattle.reduction.proofs.moved32.Goals as goal
 

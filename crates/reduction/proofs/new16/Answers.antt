@@ -5,7 +5,6 @@ use mir.Syntax.{w32, w64}
 use mathlib.Core.Path.{◌∙◌}
 use native.Mathlib.Omega.{arith}
 use Rattle.number.proofs.Range.{widened, mag-read}
-use borrow.Author.Rules.{rules}
 use Rattle.reduction.proofs.new16.Goals as goal
 
 pub returns-then-how : goal.returns-then-how

@@ -5,7 +5,6 @@ use mir.Facts.{to_z-of_z}
 use borrow.Author.Rules.{sfits_of}
 use mir.Syntax.{w64}
 use native.Mathlib.Omega.{arith}
-use borrow.Author.Rules.{rules}
 use Rattle.reduction.proofs.new32.Goals as goal
 
 pub returns-then-how : goal.returns-then-how

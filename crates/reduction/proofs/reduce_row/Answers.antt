@@ -3,7 +3,6 @@ use mathlib.Core.Path.{sym, ◌∙◌}
 use lib.ListN.{length}
 use Rattle.number.proofs.Tests.{pick_true, pick_false}
 use borrow.Author.Tests.{eq-eqb, ne_eqb}
-use borrow.Author.Rules.{rules}
 use Rattle.reduction.proofs.reduce_row.Goals as goal
 
 pub returns-then-state-ne5120 : goal.returns-then-state-ne5120

@@ -4,7 +4,6 @@ use borrow.Author.Rules.{sfits_of}
 use mathlib.Core.Path.{sym, ◌∙◌}
 use native.Mathlib.Omega.{arith}
 use Rattle.number.proofs.Tests.{pick_false}
-use borrow.Author.Rules.{rules}
 use mir.Syntax.{w64}
 use Rattle.reduction.proofs.rounding.Goals as goal
 

@@ -6,7 +6,6 @@ use Prim.Native.Nat.{◌^◌, ◌≤◌}
 use lib.IntN.{ℤ}
 use lib.Signed.{mag}
 use Rattle.reduction.specs.Reduction.{added_to}
-use borrow.Author.Rules.{rules}
 use Rattle.reduction.proofs.rounding32.Goals as goal
 
 pub overflow_cast-result : goal.overflow_cast-result

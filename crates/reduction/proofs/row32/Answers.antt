@@ -1,11 +1,8 @@
-use borrow.Author.Rules.{rules}
 use native.Mathlib.Omega.{arith}
 use mathlib.Core.Path.{refl, sym, ◌∙◌}
 use mathlib.Core.Bool.{false}
-use Prim.Native.Nat.{◌-◌, ◌≤◌}
 use lib.ListN.{get_or}
-use Rattle.state.proofs.Holds.{Bytes}
-use Rattle.state.proofs.Dealing.{Lanes, lanes-none, lanes-more, lanes_all}
+use Rattle.state.proofs.Dealing.{lanes-none, lanes-more, lanes_all}
 use Rattle.reduction.specs.Reduction.{reduce_to}
 use Rattle.reduction.proofs.row32.Goals as goal
 

@@ -1,13 +1,10 @@
-use borrow.Author.Rules.{rules}
-use native.Mathlib.Omega.{arith}
-use mathlib.Core.Path.{refl, sym, ap, ◌∙◌}
+use mathlib.Core.Path.{refl}
 use mathlib.Core.Bool.{false}
-use Prim.Native.Nat.{ℕ, ◌+◌, ◌*◌, ◌-◌, ◌≤◌}
+use Prim.Native.Nat.{◌-◌, ◌≤◌}
 use lib.ListN.{get_or}
 use Rattle.state.proofs.Holds.{Bytes}
-use Rattle.state.proofs.Dealing.{Lanes, lanes-none, lanes-more, lanes_all}
-use Rattle.reduction.specs.Reduction.{reduce_to, lane_stored}
-use native.Mathlib.Nat.{mul-one}
+use Rattle.state.proofs.Dealing.{Lanes}
+use Rattle.reduction.specs.Reduction.{reduce_to}
 use Rattle.reduction.proofs.row8.Given as goal
 
 abbrev pub invariant-loop-l : goal.invariant-loop-l

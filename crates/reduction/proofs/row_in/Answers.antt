@@ -3,7 +3,6 @@ use mathlib.Core.Path.{sym, ap, ◌∙◌}
 use Prim.Native.Nat.{ℕ}
 use Rattle.isa.specs.Effect.{applied}
 use Rattle.reduction.specs.Reduction.{row_reduced}
-use borrow.Author.Rules.{rules}
 use Rattle.reduction.proofs.row_in.Goals as goal
 
 pub returns-then-b-eq1 : goal.returns-then-b-eq1

@@ -1,7 +1,6 @@
 use native.Mathlib.Omega.{arith}
 use lib.ListN.{length-set}
 use Rattle.number.proofs.Slice.{stores_2}
-use borrow.Author.Rules.{rules}
 use Rattle.reduction.proofs.store16.Goals as goal
 
 pub bounds-s-at-2 : goal.bounds-s-at-2

@@ -4,7 +4,6 @@ use Prim.Native.Nat.{ℕ, ◌+◌, ◌/◌}
 use lib.Seq.{sets}
 use Rattle.number.specs.Bytes.{bytes_of}
 use Rattle.number.proofs.Slice.{stores_halves}
-use borrow.Author.Rules.{rules}
 use Rattle.reduction.proofs.store32.Goals as goal
 
 pub returns : goal.returns

@@ -5,7 +5,6 @@ use borrow.Author.Rules.{sfits_of}
 use mathlib.Core.Path.{ap, ◌∙◌}
 use Rattle.number.specs.Integers.{clamp}
 use Rattle.reduction.specs.Reduction.{shifted_by}
-use borrow.Author.Rules.{rules}
 use Rattle.reduction.proofs.value.Goals as goal
 
 pub returns-then-how : goal.returns-then-how

@@ -5,7 +5,6 @@ use borrow.Author.Rules.{sfits_of}
 use mathlib.Core.Path.{ap, ◌∙◌}
 use Rattle.number.specs.Integers.{clamp}
 use Rattle.reduction.specs.Reduction.{shifted_by, low_end, highest}
-use borrow.Author.Rules.{rules}
 use mir.Syntax.{w32}
 use Rattle.reduction.proofs.value32.Goals as goal
 

@@ -5,7 +5,7 @@ use mathlib.Core.Path.{◌≡◌}
 use mir.Val.{SFits}
 use mir.Syntax.{w16}
 use Rattle.number.proofs.Range.{below-zero}
-use Prim.Native.Nat.{◌-◌, ◌/◌, ◌^◌}
+use Prim.Native.Nat.{◌^◌}
 use mathlib.Core.Path.{ap, ◌∙◌}
 use borrow.Author.Rules.{sfits_of}
 use mir.Facts.{to_z-of_z}

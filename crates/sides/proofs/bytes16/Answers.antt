@@ -1,11 +1,9 @@
-use Prim.Native.Nat.{◌-◌, ◌/◌, ◌≤◌}
-use lib.ListN.{length, length-set}
+use lib.ListN.{length-set}
 use native.Mathlib.Nat.{not-suc-le-zero}
-use mathlib.Core.Path.{◌≡◌, refl}
+use mathlib.Core.Path.{refl}
 use native.Mathlib.Omega.{arith}
 use Rattle.sides.specs.Sides.{lane_of}
-use Rattle.sides.proofs.Lanes.{lane_byte, Reads, reads_more, reads_all}
-use borrow.Author.Rules.{rules}
+use Rattle.sides.proofs.Lanes.{lane_byte, reads_more, reads_all}
 use Rattle.sides.proofs.bytes16.Goals as goal
 
 pub loop-i-init : goal.loop-i-init

@@ -1,11 +1,8 @@
-use Prim.Native.Nat.{◌-◌, ◌/◌, ◌≤◌}
-use lib.ListN.{length, length-set}
-use native.Mathlib.Nat.{not-suc-le-zero}
-use mathlib.Core.Path.{◌≡◌, refl}
-use native.Mathlib.Omega.{arith}
+use Prim.Native.Nat.{◌-◌, ◌≤◌}
+use lib.ListN.{length}
+use mathlib.Core.Path.{◌≡◌}
 use Rattle.sides.specs.Sides.{lane_of}
-use Rattle.sides.proofs.Lanes.{lane_byte, Reads, reads_more, reads_all}
-use borrow.Author.Rules.{rules}
+use Rattle.sides.proofs.Lanes.{Reads}
 use Rattle.sides.proofs.bytes16.Given as goal
 
 abbrev pub invariant-loop-i : goal.invariant-loop-i

@@ -1,11 +1,9 @@
-use Prim.Native.Nat.{◌-◌, ◌/◌, ◌≤◌}
-use lib.ListN.{length, length-set}
+use lib.ListN.{length-set}
 use native.Mathlib.Nat.{not-suc-le-zero}
-use mathlib.Core.Path.{◌≡◌, refl}
+use mathlib.Core.Path.{refl}
 use native.Mathlib.Omega.{arith}
-use Rattle.number.proofs.Fill.{Filled, fill_more}
+use Rattle.number.proofs.Fill.{fill_more}
 use Rattle.sides.proofs.FirstLanes.{inside}
-use borrow.Author.Rules.{rules}
 use Rattle.sides.proofs.filled.Goals as goal
 
 pub loop-i-init : goal.loop-i-init

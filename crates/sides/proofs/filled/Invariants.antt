@@ -1,11 +1,7 @@
-use Prim.Native.Nat.{◌-◌, ◌/◌, ◌≤◌}
-use lib.ListN.{length, length-set}
-use native.Mathlib.Nat.{not-suc-le-zero}
-use mathlib.Core.Path.{◌≡◌, refl}
-use native.Mathlib.Omega.{arith}
-use Rattle.number.proofs.Fill.{Filled, fill_more}
-use Rattle.sides.proofs.FirstLanes.{inside}
-use borrow.Author.Rules.{rules}
+use Prim.Native.Nat.{◌-◌, ◌≤◌}
+use lib.ListN.{length}
+use mathlib.Core.Path.{◌≡◌}
+use Rattle.number.proofs.Fill.{Filled}
 use Rattle.sides.proofs.filled.Given as goal
 
 abbrev pub invariant-loop-i : goal.invariant-loop-i

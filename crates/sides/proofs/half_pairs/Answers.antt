@@ -1,12 +1,10 @@
-use Prim.Native.Nat.{◌-◌, ◌/◌, ◌≤◌}
-use lib.ListN.{length, length-set}
+use lib.ListN.{length-set}
 use native.Mathlib.Nat.{not-suc-le-zero}
-use mathlib.Core.Path.{◌≡◌, refl}
+use mathlib.Core.Path.{refl}
 use native.Mathlib.Omega.{arith}
-use Rattle.number.proofs.Fill.{Filled, fill_more, fill-all}
+use Rattle.number.proofs.Fill.{fill_more, fill-all}
 use Rattle.sides.specs.Sides.{pair_of}
 use Rattle.sides.proofs.Lanes.{pair_is}
-use borrow.Author.Rules.{rules}
 use Rattle.sides.proofs.half_pairs.Goals as goal
 
 pub loop-i-init : goal.loop-i-init

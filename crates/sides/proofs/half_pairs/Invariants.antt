@@ -1,12 +1,8 @@
-use Prim.Native.Nat.{◌-◌, ◌/◌, ◌≤◌}
-use lib.ListN.{length, length-set}
-use native.Mathlib.Nat.{not-suc-le-zero}
-use mathlib.Core.Path.{◌≡◌, refl}
-use native.Mathlib.Omega.{arith}
-use Rattle.number.proofs.Fill.{Filled, fill_more, fill-all}
+use Prim.Native.Nat.{◌-◌, ◌≤◌}
+use lib.ListN.{length}
+use mathlib.Core.Path.{◌≡◌}
+use Rattle.number.proofs.Fill.{Filled}
 use Rattle.sides.specs.Sides.{pair_of}
-use Rattle.sides.proofs.Lanes.{pair_is}
-use borrow.Author.Rules.{rules}
 use Rattle.sides.proofs.half_pairs.Given as goal
 
 abbrev pub invariant-loop-i : goal.invariant-loop-i

@@ -1,8 +1,7 @@
-use Prim.Native.Nat.{◌-◌, ◌/◌, ◌%◌}
+use Prim.Native.Nat.{◌%◌}
 use mathlib.Core.Path.{sym, ◌∙◌}
 use Rattle.sides.specs.Sides.{side_by, kept_terms, values_of}
 use Rattle.sides.proofs.Kept.{kept-lanes, read-lanes}
-use borrow.Author.Rules.{rules}
 use Rattle.sides.proofs.kept_terms.Goals as goal
 
 pub returns-then-plus : goal.returns-then-plus

@@ -1,10 +1,8 @@
-use Prim.Native.Nat.{◌-◌, ◌/◌}
 use mathlib.Core.Path.{◌∙◌}
 use borrow.Author.Rules.{sfits_of}
 use mir.Facts.{to_z-of_z}
 use native.Mathlib.Omega.{arith}
 use Rattle.sides.proofs.Kept.{read_held}
-use borrow.Author.Rules.{rules}
 use mir.Syntax.{w32}
 use Rattle.sides.proofs.lane32.Goals as goal
 

@@ -1,4 +1,4 @@
-use Prim.Native.Nat.{◌+◌, ◌-◌, ◌/◌, ◌≤◌}
+use Prim.Native.Nat.{◌≤◌}
 use lib.IntN.{ℤ, ◌+ℤ◌}
 use mathlib.Core.Path.{◌≡◌, refl, sym}
 use borrow.Author.Rules.{sfits_of}

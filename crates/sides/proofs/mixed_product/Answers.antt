@@ -1,5 +1,4 @@
-use Prim.Native.Nat.{◌-◌, ◌*◌, ◌/◌}
-use lib.IntN.{ℤ, pos, ◌*ℤ◌}
+use lib.IntN.{pos, ◌*ℤ◌}
 use mathlib.Core.Path.{refl}
 use borrow.Author.Rules.{sfits_of}
 use mir.Facts.{to_z-of_z}
@@ -9,7 +8,6 @@ use Rattle.number.proofs.Range.{widened}
 use Rattle.sides.proofs.Kept.{mag-mixed}
 use mir.Val.{SFits}
 use mir.Facts.{to_z_pos, sfits_widen}
-use borrow.Author.Rules.{rules}
 use Rattle.sides.proofs.mixed_product.Goals as goal
 
 pub overflow_cast-result : goal.overflow_cast-result

@@ -1,15 +1,11 @@
-use Prim.Native.Nat.{◌-◌, ◌/◌, ◌%◌, ◌≤◌}
+use Prim.Native.Nat.{◌-◌, ◌%◌, ◌≤◌}
 use lib.IntN.{pos}
-use lib.ListN.{length, length-set}
-use mathlib.Core.Path.{◌≡◌, refl, ◌∙◌}
+use lib.ListN.{length}
+use mathlib.Core.Path.{◌≡◌}
 use mathlib.Core.Bool.{true, false}
-use borrow.Author.Rules.{sfits_of}
-use mir.Facts.{to_z-of_z}
-use native.Mathlib.Omega.{arith}
-use Rattle.sides.specs.Sides.{kept_terms, values_of}
-use Rattle.sides.proofs.Begun.{Begun, begun-none, begun_more, begun_all}
-use Rattle.sides.proofs.Kept.{kept_at, kept_in, kept_out}
-use borrow.Author.Rules.{rules}
+use Rattle.sides.specs.Sides.{values_of}
+use Rattle.sides.proofs.Begun.{Begun}
+use Rattle.sides.proofs.Kept.{kept_at}
 use Rattle.sides.proofs.mixed_products.Given as goal
 
 abbrev pub invariant-loop-i : goal.invariant-loop-i

@@ -1,4 +1,4 @@
-use Prim.Native.Nat.{◌-◌, ◌*◌, ◌/◌, ◌%◌}
+use Prim.Native.Nat.{◌%◌}
 use lib.IntN.{pos, ◌*ℤ◌}
 use mathlib.Core.Path.{refl, ap₂, ◌∙◌}
 use mathlib.Core.Bool.{false}
@@ -6,7 +6,6 @@ use borrow.Author.Rules.{sfits_of}
 use mir.Facts.{to_z-of_z}
 use Rattle.number.specs.Integers.{signed}
 use Rattle.sides.proofs.Kept.{kept-term}
-use borrow.Author.Rules.{rules}
 use mir.Syntax.{w16, w32}
 use Rattle.sides.proofs.mixed_term.Goals as goal
 

@@ -1,11 +1,10 @@
-use Prim.Native.Nat.{◌+◌, ◌-◌, ◌/◌, ◌%◌}
+use Prim.Native.Nat.{◌%◌}
 use lib.IntN.{ℤ, ◌+ℤ◌}
 use mathlib.Core.Path.{ap, ◌∙◌}
 use borrow.Author.Rules.{sfits_of}
 use mir.Facts.{to_z-of_z}
 use Rattle.number.specs.Integers.{◌≫◌}
 use Rattle.sides.proofs.Kept.{sum_fits, sum_is, rounded}
-use borrow.Author.Rules.{rules}
 use mir.Syntax.{w32}
 use Rattle.sides.proofs.moved.Goals as goal
 

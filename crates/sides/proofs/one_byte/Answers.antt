@@ -1,6 +1,5 @@
-use Prim.Native.Nat.{◌-◌, ◌/◌, ◌%◌}
+use Prim.Native.Nat.{◌%◌}
 use Rattle.sides.proofs.Lanes.{lane_byte}
-use borrow.Author.Rules.{rules}
 use Rattle.sides.proofs.one_byte.Goals as goal
 
 pub returns : goal.returns

@@ -1,10 +1,9 @@
-use Prim.Native.Nat.{◌-◌, ◌/◌, ◌%◌}
+use Prim.Native.Nat.{◌/◌, ◌%◌}
 use mathlib.Core.Path.{sym, ◌∙◌}
 use mathlib.Core.Bool.{true, cond}
 use Rattle.number.specs.Integers.{read}
 use Rattle.sides.specs.Sides.{lane_of, lane_bytes}
 use Rattle.sides.proofs.Lanes.{lane-pair}
-use borrow.Author.Rules.{rules}
 use Rattle.sides.proofs.one_lane.Goals as goal
 
 pub returns-then-how : goal.returns-then-how

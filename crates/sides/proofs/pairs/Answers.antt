@@ -1,11 +1,9 @@
-use Prim.Native.Nat.{◌-◌, ◌/◌, ◌≤◌}
-use lib.ListN.{length, length-set}
-use mathlib.Core.Path.{◌≡◌, refl}
+use lib.ListN.{length-set}
+use mathlib.Core.Path.{refl}
 use native.Mathlib.Omega.{arith}
 use Rattle.sides.specs.Sides.{pair_of}
-use Rattle.sides.proofs.Begun.{Begun, begun-none, begun_more, begun_all}
+use Rattle.sides.proofs.Begun.{begun-none, begun_more, begun_all}
 use Rattle.sides.proofs.Lanes.{pair_is, pair-past}
-use borrow.Author.Rules.{rules}
 use Rattle.sides.proofs.pairs.Goals as goal
 
 pub loop-i-init : goal.loop-i-init

@@ -1,11 +1,8 @@
-use Prim.Native.Nat.{◌-◌, ◌/◌, ◌≤◌}
-use lib.ListN.{length, length-set}
-use mathlib.Core.Path.{◌≡◌, refl}
-use native.Mathlib.Omega.{arith}
+use Prim.Native.Nat.{◌-◌, ◌≤◌}
+use lib.ListN.{length}
+use mathlib.Core.Path.{◌≡◌}
 use Rattle.sides.specs.Sides.{pair_of}
-use Rattle.sides.proofs.Begun.{Begun, begun-none, begun_more, begun_all}
-use Rattle.sides.proofs.Lanes.{pair_is, pair-past}
-use borrow.Author.Rules.{rules}
+use Rattle.sides.proofs.Begun.{Begun}
 use Rattle.sides.proofs.pairs.Given as goal
 
 abbrev pub invariant-loop-i : goal.invariant-loop-i

@@ -1,9 +1,8 @@
-use Prim.Native.Nat.{◌-◌, ◌/◌, ◌%◌}
+use Prim.Native.Nat.{◌%◌}
 use mathlib.Core.Path.{sym, ◌∙◌}
 use mathlib.Core.Bool.{true, false}
 use Rattle.sides.specs.Sides.{kept_terms, values_of}
 use Rattle.sides.proofs.Kept.{kept-swap}
-use borrow.Author.Rules.{rules}
 use Rattle.sides.proofs.products.Goals as goal
 
 pub returns-then-ysigned : goal.returns-then-ysigned

@@ -9,7 +9,6 @@ use mir.Facts.{to_z-of_z, sfits_widen}
 use borrow.Author.Rules.{sfits_of}
 use Rattle.number.specs.Integers.{◌≫◌}
 use Rattle.number.proofs.Range.{widened}
-use borrow.Author.Rules.{rules}
 use Rattle.sides.proofs.shifted32.Goals as goal
 
 pub overflow_cast-v : goal.overflow_cast-v

@@ -1,7 +1,5 @@
-use Prim.Native.Nat.{◌-◌, ◌/◌}
 use borrow.Author.Tests.{not-true, not-false}
 use Rattle.sides.proofs.Lanes.{side-fixed, side-bytes, side-twice, side-once}
-use borrow.Author.Rules.{rules}
 use Rattle.sides.proofs.side16.Goals as goal
 
 pub returns-then-how : goal.returns-then-how

@@ -1,11 +1,10 @@
-use Prim.Native.Nat.{◌+◌, ◌-◌, ◌/◌, ◌%◌}
+use Prim.Native.Nat.{◌+◌, ◌%◌}
 use mir.Facts.{to_z-of_z}
 use mir.Syntax.{w16}
 use native.Mathlib.Omega.{arith}
 use Rattle.sides.proofs.Lanes.{shifted-byte}
 use Rattle.number.proofs.Range.{signed-fits}
 use mir.Facts.{to_z_pos}
-use borrow.Author.Rules.{rules}
 use Rattle.sides.proofs.sign8.Goals as goal
 
 pub overflow_sub-result : goal.overflow_sub-result

@@ -1,5 +1,4 @@
-use Prim.Native.Nat.{◌-◌, ◌*◌, ◌/◌}
-use lib.IntN.{ℤ, ◌*ℤ◌}
+use lib.IntN.{◌*ℤ◌}
 use mathlib.Core.Path.{refl}
 use borrow.Author.Rules.{sfits_of}
 use mir.Facts.{to_z-of_z}

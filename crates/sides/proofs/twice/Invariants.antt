@@ -1,12 +1,7 @@
 use Prim.Native.Nat.{◌-◌, ◌*◌, ◌/◌, ◌≤◌}
-use lib.ListN.{length, get_or, length-set}
-use native.Mathlib.Nat.{not-suc-le-zero}
-use mathlib.Core.Path.{◌≡◌, refl}
-use native.Mathlib.Omega.{arith}
+use lib.ListN.{length, get_or}
+use mathlib.Core.Path.{◌≡◌}
 use Rattle.number.proofs.Fill.{Filled}
-use Rattle.sides.proofs.Lanes.{twice-more}
-use Rattle.sides.proofs.FirstLanes.{inside}
-use borrow.Author.Rules.{rules}
 use Rattle.sides.proofs.twice.Given as goal
 
 abbrev pub invariant-loop-i : goal.invariant-loop-i

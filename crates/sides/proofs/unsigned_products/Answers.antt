@@ -1,15 +1,14 @@
-use Prim.Native.Nat.{◌-◌, ◌/◌, ◌%◌, ◌≤◌}
+use Prim.Native.Nat.{◌%◌}
 use lib.IntN.{pos}
-use lib.ListN.{length, length-set}
-use mathlib.Core.Path.{◌≡◌, refl, ◌∙◌}
+use lib.ListN.{length-set}
+use mathlib.Core.Path.{refl, ◌∙◌}
 use mathlib.Core.Bool.{false}
 use borrow.Author.Rules.{sfits_of}
 use mir.Facts.{to_z-of_z}
 use native.Mathlib.Omega.{arith}
 use Rattle.sides.specs.Sides.{kept_terms, values_of}
-use Rattle.sides.proofs.Begun.{Begun, begun-none, begun_more, begun_all}
+use Rattle.sides.proofs.Begun.{begun-none, begun_more, begun_all}
 use Rattle.sides.proofs.Kept.{kept_at, kept_in, kept_out}
-use borrow.Author.Rules.{rules}
 use mir.Syntax.{w32}
 use Rattle.sides.proofs.unsigned_products.Goals as goal
 

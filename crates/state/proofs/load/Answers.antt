@@ -1,6 +1,6 @@
 use Rattle.state.proofs.Loads.{by-ring, side_by_side}
 use Rattle.isa.specs.State.{x_base, y_base}
-use Rattle.std.proofs.Common.{cond, rules}
+use Rattle.std.proofs.Common.{cond}
 use Rattle.state.proofs.load.Goals as goal
 
 pub returns-then-state-lt1024 : goal.returns-then-state-lt1024

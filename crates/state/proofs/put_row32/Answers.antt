@@ -1,6 +1,6 @@
-use Rattle.state.proofs.Numbers.{row_read, Stored, stored-none, stored_more, stored-all, stored-outside}
+use Rattle.state.proofs.Numbers.{row_read, stored-none, stored_more, stored-all, stored-outside}
 use Rattle.number.proofs.Tests.{pick_false}
-use Rattle.std.proofs.Common.{◌-◌, length, sym, refl, ◌∙◌, arith, rules, ne_eqb}
+use Rattle.std.proofs.Common.{length, sym, refl, ◌∙◌, arith, ne_eqb}
 use Rattle.state.proofs.put_row32.Goals as goal
 
 pub returns-then-state-ne5120 : goal.returns-then-state-ne5120

@@ -1,6 +1,5 @@
-use Rattle.state.proofs.Numbers.{row_read, Stored, stored-none, stored_more, stored-all, stored-outside}
-use Rattle.number.proofs.Tests.{pick_false}
-use Rattle.std.proofs.Common.{◌-◌, length, sym, refl, ◌∙◌, arith, rules, ne_eqb}
+use Rattle.state.proofs.Numbers.{Stored}
+use Rattle.std.proofs.Common.{◌-◌, refl}
 use Rattle.state.proofs.put_row32.Given as goal
 
 abbrev pub invariant-loop-l : goal.invariant-loop-l

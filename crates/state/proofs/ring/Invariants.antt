@@ -1,6 +1,6 @@
-use Rattle.std.proofs.Common.{◌≡◌, ◌-◌, ◌≤◌, length, refl, not-suc-le-zero, arith, length-set, rules}
+use Rattle.std.proofs.Common.{◌≡◌, ◌-◌, ◌≤◌, length}
 use Rattle.isa.specs.State.{loaded}
-use Rattle.number.proofs.Fill.{Filled, fill_more, fill-all}
+use Rattle.number.proofs.Fill.{Filled}
 use Rattle.state.proofs.ring.Given as goal
 
 abbrev pub invariant-loop-i : goal.invariant-loop-i

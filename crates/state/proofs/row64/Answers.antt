@@ -1,5 +1,5 @@
 use Rattle.state.proofs.Numbers.{row_read}
-use Rattle.std.proofs.Common.{◌%◌, refl, rules}
+use Rattle.std.proofs.Common.{◌%◌, refl}
 use Rattle.state.proofs.row64.Goals as goal
 
 pub returns : goal.returns

@@ -1,5 +1,5 @@
 use Rattle.number.proofs.Slice.{stores_2}
-use Rattle.std.proofs.Common.{arith, length-set, rules}
+use Rattle.std.proofs.Common.{arith, length-set}
 use Rattle.state.proofs.store16.Goals as goal
 
 pub bounds-state-at-2 : goal.bounds-state-at-2

@@ -1,7 +1,7 @@
 use Rattle.number.specs.Bytes.{bytes_of}
 use Rattle.number.proofs.Slice.{stores_halves}
 use lib.Seq.{sets}
-use Rattle.std.proofs.Common.{ℕ, ◌+◌, ◌/◌, List, ap, ◌∙◌, rules}
+use Rattle.std.proofs.Common.{ℕ, ◌+◌, ◌/◌, List, ap, ◌∙◌}
 use Rattle.state.proofs.store32.Goals as goal
 
 pub returns : goal.returns

@@ -1,6 +1,6 @@
-use Rattle.std.proofs.Common.{◌≡◌, ◌+◌, ◌-◌, ◌≤◌, length, refl, not-suc-le-zero, arith, length-set, rules}
+use Rattle.std.proofs.Common.{◌+◌, refl, not-suc-le-zero, arith, length-set}
 use Rattle.number.specs.Bytes.{byte_at}
-use Rattle.number.proofs.Fill.{Filled, fill_more, fill-all}
+use Rattle.number.proofs.Fill.{fill_more, fill-all}
 use Rattle.state.proofs.straight.Goals as goal
 
 pub loop-i-init : goal.loop-i-init

@@ -1,6 +1,6 @@
 use Rattle.number.specs.Bytes.{bytes_of}
 use lib.Seq.{sets}
-use Rattle.std.proofs.Common.{ℕ, ap, ◌∙◌, rules}
+use Rattle.std.proofs.Common.{ℕ, ap, ◌∙◌}
 use Rattle.state.specs.Rows.{lane_sum}
 use Rattle.state.proofs.sum_lane16.Goals as goal
 

@@ -1,6 +1,5 @@
-use Rattle.std.proofs.Common.{◌-◌, ◌≤◌, length, sym, refl, ◌∙◌, arith, rules, eq-eqb, ne_eqb}
-use Rattle.state.proofs.RunLoop.{Upto, run_none, run-reads, run_more, run-all, run-outside, in-run, summed}
-use Rattle.state.proofs.Holds.{Holds, Bytes}
+use Rattle.std.proofs.Common.{length, sym, refl, ◌∙◌, arith, eq-eqb, ne_eqb}
+use Rattle.state.proofs.RunLoop.{run_none, run-reads, run_more, run-all, run-outside, in-run, summed}
 use Rattle.state.specs.Rows.{run_sum}
 use Rattle.number.proofs.Tests.{pick_true, pick_false}
 use Rattle.state.proofs.sum_row16.Goals as goal

@@ -1,8 +1,7 @@
-use Rattle.std.proofs.Common.{◌-◌, ◌≤◌, length, sym, refl, ◌∙◌, arith, rules, eq-eqb, ne_eqb}
-use Rattle.state.proofs.RunLoop.{Upto, run_none, run-reads, run_more, run-all, run-outside, in-run, summed}
+use Rattle.std.proofs.Common.{◌-◌, ◌≤◌, refl}
+use Rattle.state.proofs.RunLoop.{Upto}
 use Rattle.state.proofs.Holds.{Holds, Bytes}
 use Rattle.state.specs.Rows.{run_sum}
-use Rattle.number.proofs.Tests.{pick_true, pick_false}
 use Rattle.state.proofs.sum_row16.Given as goal
 
 abbrev pub invariant-loop-i : goal.invariant-loop-i

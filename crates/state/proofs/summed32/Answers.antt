@@ -1,6 +1,6 @@
 use Rattle.number.proofs.Tests.{pick_true, pick_false}
 use Rattle.state.specs.Rows.{lane_sum}
-use Rattle.std.proofs.Common.{sym, ◌∙◌, rules}
+use Rattle.std.proofs.Common.{sym, ◌∙◌}
 use Rattle.state.proofs.summed32.Goals as goal
 
 pub returns-then-keep : goal.returns-then-keep

@@ -1,6 +1,5 @@
-use Rattle.std.proofs.Common.{◌+◌, ◌-◌, replicate, refl, arith, rules}
-use Rattle.number.specs.Bytes.{byte_at}
-use Rattle.number.proofs.Fill.{Filling, filling-none, filling-more, filling-all}
+use Rattle.std.proofs.Common.{replicate, refl, arith}
+use Rattle.number.proofs.Fill.{filling-none, filling-more, filling-all}
 use Rattle.state.proofs.up_to_end.Goals as goal
 
 pub loop-i-init : goal.loop-i-init

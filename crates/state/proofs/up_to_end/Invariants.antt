@@ -1,6 +1,6 @@
-use Rattle.std.proofs.Common.{◌+◌, ◌-◌, replicate, refl, arith, rules}
+use Rattle.std.proofs.Common.{◌+◌, ◌-◌}
 use Rattle.number.specs.Bytes.{byte_at}
-use Rattle.number.proofs.Fill.{Filling, filling-none, filling-more, filling-all}
+use Rattle.number.proofs.Fill.{Filling}
 use Rattle.state.proofs.up_to_end.Given as goal
 
 abbrev pub invariant-loop-i : goal.invariant-loop-i

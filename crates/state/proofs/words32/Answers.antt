@@ -1,6 +1,5 @@
-use Rattle.std.proofs.Common.{◌-◌, ◌*◌, replicate, refl, arith, rules}
-use Rattle.number.specs.Bytes.{byte_at, number}
-use Rattle.number.proofs.Fill.{Filling, filling-none, filling-more, filling-all}
+use Rattle.std.proofs.Common.{replicate, refl, arith}
+use Rattle.number.proofs.Fill.{filling-none, filling-more, filling-all}
 use Rattle.state.proofs.words32.Goals as goal
 
 pub loop-l-init : goal.loop-l-init

@@ -1,6 +1,6 @@
-use Rattle.std.proofs.Common.{◌-◌, ◌*◌, replicate, refl, arith, rules}
+use Rattle.std.proofs.Common.{◌-◌, ◌*◌}
 use Rattle.number.specs.Bytes.{byte_at, number}
-use Rattle.number.proofs.Fill.{Filling, filling-none, filling-more, filling-all}
+use Rattle.number.proofs.Fill.{Filling}
 use Rattle.state.proofs.words64.Given as goal
 
 abbrev pub invariant-loop-l : goal.invariant-loop-l

@@ -1,4 +1,3 @@
-use Rattle.std.proofs.Common.{arith}
 use Rattle.text.proofs.Decimal.{stored_few, stored_many}
 use Rattle.text.proofs.+put_digits.Goals as goal
 

@@ -1,6 +1,5 @@
 use Rattle.text.specs.Lines.{digits}
 use Rattle.text.proofs.Pieces.{stored_counted}
-use borrow.Author.Rules.{rules}
 use Rattle.text.proofs.put_counted.Goals as goal
 
 pub returns : goal.returns

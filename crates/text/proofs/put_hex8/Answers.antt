@@ -1,5 +1,4 @@
 use Rattle.text.proofs.Pieces.{two-stored}
-use borrow.Author.Rules.{rules}
 use Rattle.text.proofs.put_hex8.Goals as goal
 
 pub returns : goal.returns

@@ -1,4 +1,3 @@
-use borrow.Author.Rules.{rules}
 use Rattle.text.proofs.Text.{step_stored}
 use Rattle.text.proofs.put_step.Goals as goal
 

@@ -1,5 +1,4 @@
 use Rattle.text.proofs.Text.{file_stored}
-use borrow.Author.Rules.{rules}
 use Rattle.text.proofs.refused_line.Goals as goal
 
 pub returns : goal.returns

@@ -1,4 +1,3 @@
-use borrow.Author.Rules.{rules}
 use Rattle.text.proofs.Text.{done-line}
 use Rattle.text.proofs.step_line.Goals as goal
 

@@ -1,5 +1,4 @@
 use Rattle.text.proofs.Text.{steps_stored}
-use borrow.Author.Rules.{rules}
 use Rattle.text.proofs.steps_line.Goals as goal
 
 pub returns : goal.returns

@@ -2,7 +2,6 @@ use mathlib.Core.Path.{refl}
 use Prim.Native.Nat.{◌+◌}
 use native.Mathlib.Omega.{arith}
 use lib.ListN.{set}
-use borrow.Author.Rules.{rules}
 use Rattle.text.proofs.Decimal.{stored_few, stored_pair}
 use Rattle.text.proofs.store_below_100.Goals as goal
 

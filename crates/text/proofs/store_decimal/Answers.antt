@@ -1,5 +1,4 @@
 use native.Mathlib.Omega.{arith}
-use borrow.Author.Rules.{rules}
 use Rattle.text.proofs.Decimal.{stored_hundreds}
 use Rattle.text.proofs.store_decimal.Goals as goal
 

@@ -1,6 +1,5 @@
 use mathlib.Core.Path.{refl}
 use Prim.Native.Nat.{◌+◌}
-use borrow.Author.Rules.{rules}
 use Rattle.isa.specs.declared.Answer.TheVariants.{Done}
 use Rattle.text.proofs.Text.{done-stored, step_stored}
 use Rattle.text.proofs.store_done.Goals as goal

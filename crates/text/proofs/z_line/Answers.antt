@@ -1,5 +1,4 @@
 use Rattle.text.proofs.Text.{row-stored}
-use borrow.Author.Rules.{rules}
 use Rattle.text.proofs.z_line.Goals as goal
 
 pub returns : goal.returns
