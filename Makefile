@@ -1,15 +1,31 @@
 # make run   a stored trace, printed; and the numbers at the edges, checked against the meaning
-# make host  the Rust packages: linted, tested with the proved unit and without, and the unit compared with a second program (needs cargo with
-#            rustfmt and clippy, no network)
-# make test  the gate: make host, then every crate proved from nothing, every must-fail edit refused
+# make lib   the unit for C and Rust, proved and built: target/staticlib/libamx.a
+# make trace the program, proved and built: target/bin/amx_trace
+# make host  both, and the Rust packages: linted, tested with the proved unit and without, and the unit compared with a second program (needs
+#            cargo with rustfmt and clippy, no network)
+# make test  the gate, .ci/run: every crate proved, every must-fail edit refused, every program run; then make host's checks on what that proved
 # make bench the proved unit against a C version, then against the second program; a million steps through amx_trace against the same steps alone
 #            (needs a C compiler and cargo; no part of the gate)
-.PHONY: run host test bench
+.PHONY: run lib trace host checks test bench
 
-run:
-	rt check amx_trace
+run: trace
 	target/bin/amx_trace crates/traces/data/product.trace
 	@sed -n '/^edges =/,/^ *∷ \[\]/s/^ *-- /proved: /p' crates/isa/specs/Edges.antt
+
+# For any x86-64, which rt by itself does not build for. A file that stays the same keeps its time, by which cargo goes.
+lib:
+	cd crates/amx_c && rt lib --cpu=x86-64
+	@mkdir -p target/staticlib
+	@cmp -s crates/amx_c/out/libamx_c.a target/staticlib/libamx.a || cp crates/amx_c/out/libamx_c.a target/staticlib/libamx.a
+
+# rt runs what it builds
+trace:
+	cd crates/amx_trace && rt run -- ../traces/data/product.trace > /dev/null
+	@mkdir -p target/bin
+	@cmp -s crates/amx_trace/out/amx_trace target/bin/amx_trace || cp crates/amx_trace/out/amx_trace target/bin/amx_trace
+
+host: lib trace
+	$(MAKE) checks
 
 # cargo builds into host/target. COMPARE holds options of the comparison, say --seed 2 (host/target/release/compare --help has them).
 # Without the feature `proved` the package is alone: `compare` and `speed` need it.
@@ -17,9 +33,7 @@ CARGO = cd host && cargo
 FLAGS = --locked --offline --quiet
 COMPARE =
 
-host:
-	rt staticlib amx
-	rt check amx_trace
+checks:
 	$(CARGO) fmt --all --check
 	$(CARGO) clippy $(FLAGS) --workspace --all-targets -- -D warnings
 	$(CARGO) clippy $(FLAGS) --no-default-features --all-targets -- -D warnings
@@ -27,17 +41,12 @@ host:
 	$(CARGO) test $(FLAGS) --workspace --release
 	$(CARGO) run $(FLAGS) --package amx-checks --release --bin compare -- --need-trace $(COMPARE)
 
-# rt ci empties target/ first, so it comes last
 test:
-	rt fmt --check
-	$(MAKE) host
-	rt ci
+	.ci/run
 
 B = target/bench
 
-bench:
-	rt staticlib amx
-	rt check amx_trace
+bench: lib trace
 	mkdir -p $B
 	$(CC) -O3 -DNAME=unit_baseline -c bench/unit.c -o $B/baseline.o
 	$(CC) -O3 -march=native -DNAME=unit_native -c bench/unit.c -o $B/native.o

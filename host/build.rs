@@ -19,7 +19,7 @@ fn main() {
         println!("cargo::rustc-env=AMX_LIBRARY={}", library.display());
     } else {
         println!(
-            "cargo::error=there is no {}: run `rt staticlib amx` in the repository, or set AMX_LIB_DIR to the directory that holds libamx.a, \
+            "cargo::error=there is no {}: run `make lib` in the repository, or set AMX_LIB_DIR to the directory that holds libamx.a, \
              or build without the proved unit, on the second program, by --no-default-features",
             library.display()
         );

@@ -18,6 +18,7 @@ use Rattle.isa.specs.Effect.{Effect, nothing, applied, bytes_on}
 use Rattle.isa.specs.Call.{Call, call, Instruction, instruction_by, effect_by, effect_of}
 use Rattle.isa.specs.Answers.{Row, rows_above, first_of, answer_by, answer_of, taken}
 use Rattle.isa.specs.Step.{stepped}
+use Rattle.call.proofs.Rows.{is-other}
 use Rattle.isa.proofs.Rows.{AllRows, above_all}
 use Rattle.isa.proofs.Registers.{length-registers}
 use Rattle.isa.proofs.Applied.{length-applied, applied-nothing}
@@ -36,15 +37,15 @@ module _ (s t : List ℕ) (r : ℕ) where
   abbrev By : Effect → Type 0
   By e = (t ≡ cond (eqb (length s) 5120) (applied e s) s) × (r ≡ cond (eqb (length s) 5120) (bytes_on e) 0)
 
-  pub ran : (i gen op : ℕ) (k : Instruction) → instruction_by i ≡ k → By (effect_by k gen op) → By (effect_of (call i gen op))
-  ran i gen op k e = subst (λ (x : Instruction). By (effect_by x gen op)) (sym e)
-
 -- another number does nothing
-pub ran_nothing : (s : List ℕ) → By s s 0 nothing
-ran_nothing s = (
-  sym (either (λ (l : List ℕ). l ≡ s) (eqb (length s) 5120) (applied-nothing s) refl),
-  sym (either (λ (n : ℕ). n ≡ 0) (eqb (length s) 5120) nothing-bytes refl),
-)
+pub effect_other : (i gen op : ℕ) → (i ≡ 14 → ⊥) → (i ≡ 18 → ⊥) → (i ≡ 19 → ⊥) → (i ≡ 11 → ⊥) → effect_of (call i gen op) ≡ nothing
+effect_other i gen op not14 not18 not19 not11 = ap (λ (k : Instruction). effect_by k gen op) (is-other i not18 not19 not11 not14)
+
+pub left_by_nothing : (s : List ℕ) → cond (eqb (length s) 5120) (applied nothing s) s ≡ s
+left_by_nothing s = either (λ (l : List ℕ). l ≡ s) (eqb (length s) 5120) (applied-nothing s) refl
+
+pub counted_by_nothing : (s : List ℕ) → cond (eqb (length s) 5120) (bytes_on nothing) 0 ≡ 0
+counted_by_nothing s = either (λ (n : ℕ). n ≡ 0) (eqb (length s) 5120) nothing-bytes refl
 
 -- and then the count is raised to n
 pub done-as : (e : Effect) (s t u : List ℕ) (r n : ℕ) → length s ≡ 5128 → By (registers_of s) t r e → u ≡ state_of (registers_of (t ++ drop 5120 s)) n

@@ -18,6 +18,7 @@ pub fn due(state: &[u8]) -> u64
 }
 
 // What a call does to the registers where it is done, and the count of bytes in enabled lanes.
+#[tactic(auto, using(crate::proofs::Table::effect_other, crate::proofs::Table::left_by_nothing, crate::proofs::Table::counted_by_nothing))]
 fn run(registers: &mut [u8], instruction: u64, generation: u64, operand: u64) -> u64
     ensures { (registers.new ≡ cond (eqb (length registers.old) register_bytes)
         (applied (Calls.effect_of (Calls.call instruction generation operand)) registers.old) registers.old)
