@@ -15,7 +15,7 @@ use Rattle.isa.specs.declared.Answer.{Answer}
 use Rattle.isa.specs.declared.Answer.TheVariants.{Done, NoOp, Refused}
 use Rattle.isa.specs.State.{registers_of, count_of, last_count, state_of}
 use Rattle.isa.specs.Effect.{Effect, nothing, applied, bytes_on}
-use Rattle.isa.specs.Call.{Call, call, Instruction, instruction_by, effect_by, effect_of}
+use Rattle.isa.specs.Call.{Call, call, Instruction, effect_by, effect_of}
 use Rattle.isa.specs.Answers.{Row, rows_above, first_of, answer_by, answer_of, taken}
 use Rattle.isa.specs.Step.{stepped}
 use Rattle.call.proofs.Rows.{is-other}

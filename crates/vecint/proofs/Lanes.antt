@@ -3,7 +3,7 @@
 use Rattle.std.proofs.Common.{◌≡◌, ℕ, ◌+◌, ◌%◌, ◌<◌, Bool, true, false, cond, not, ℤ, ◌+ℤ◌, neg_ℤ, sym, refl, ap, ◌∙◌}
 use borrow.Author.Tests.{not-true, not-false}
 use Rattle.number.specs.Bytes.{span}
-use Rattle.number.specs.Integers.{signed, wrap, kept, clamp, clamp_signed}
+use Rattle.number.specs.Integers.{signed, wrap, kept, clamp_signed}
 use Rattle.number.proofs.Modular.{adds_modulo, takes_modulo}
 use Rattle.number.proofs.Tests.{pick_true, pick_false}
 use Rattle.vecint.specs.declared.Alu.{Alu}

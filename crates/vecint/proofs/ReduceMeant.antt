@@ -1,6 +1,6 @@
 -- What the code does with a row in mode 4 is what is meant by the vector.
 -- Assumes nothing.
-use Rattle.std.proofs.Common.{◌≡◌, ℕ, ◌+◌, ◌*◌, ◌%◌, ◌<◌, Bool, true, false, cond, ◌||◌, eqb, List, length, get_or, take, ℤ, pos, ◌+ℤ◌, sym, refl, ap, ◌∙◌, mod-eq_of_lt, zero-add, arith, eq-eqb}
+use Rattle.std.proofs.Common.{◌≡◌, ℕ, ◌*◌, ◌%◌, ◌<◌, Bool, true, false, cond, ◌||◌, eqb, List, length, get_or, take, ℤ, pos, ◌+ℤ◌, sym, refl, ap, ◌∙◌, mod-eq_of_lt, zero-add, arith, eq-eqb}
 use Rattle.number.specs.Bytes.{span}
 use Rattle.number.specs.Integers.{wrap, read, ◌≫◌, half_unit, clamp_signed, clamp_unsigned}
 use Rattle.number.proofs.Bytes.{get_d-table}

@@ -1,6 +1,6 @@
 -- The result of each mode is what one formula makes of it.
 -- Assumes nothing.
-use Rattle.std.proofs.Common.{◌≡◌, ℕ, ◌+◌, ◌*◌, ◌^◌, Bool, true, false, cond, not, ◌||◌, eqb, List, ℤ, pos, ◌+ℤ◌, ◌*ℤ◌, neg_ℤ, sym, refl, ap, ◌∙◌, subst, eqb-true}
+use Rattle.std.proofs.Common.{◌≡◌, ℕ, ◌^◌, Bool, true, false, cond, not, ◌||◌, eqb, List, ℤ, pos, ◌+ℤ◌, ◌*ℤ◌, neg_ℤ, sym, refl, ap, ◌∙◌, subst, eqb-true}
 use native.Mathlib.Nat.{zero-div}
 use lib.IntN.{+ℤ_idl, +ℤ_idr}
 use Rattle.number.specs.Integers.{signed, ◌≫◌, clamp_signed}

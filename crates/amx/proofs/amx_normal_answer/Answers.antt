@@ -1,6 +1,5 @@
 use mathlib.Core.Path.{ap, ◌∙◌}
 use Rattle.isa.specs.Answers.{normal_number}
-use borrow.Author.Rules.{rules}
 use Rattle.amx.proofs.amx_normal_answer.Goals as goal
 
 pub returns : goal.returns

@@ -1,6 +1,5 @@
 use mathlib.Core.Path.{sym, ap, ◌∙◌}
 use Rattle.isa.specs.Normal.{handed_back}
-use borrow.Author.Rules.{rules}
 use Rattle.amx.proofs.amx_normal_operand.Goals as goal
 
 pub returns-in-Operand : goal.returns-in-Operand

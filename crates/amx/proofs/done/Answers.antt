@@ -3,7 +3,6 @@ use Prim.Native.Nat.{◌+◌}
 use Rattle.isa.specs.Call.{call, effect_of}
 use Rattle.isa.proofs.Registers.{length-registers}
 use Rattle.amx.proofs.Table.{done-as}
-use borrow.Author.Rules.{rules}
 use Rattle.amx.proofs.done.Goals as goal
 
 pub slice_bounds-run-end-2 : goal.slice_bounds-run-end-2

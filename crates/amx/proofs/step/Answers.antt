@@ -1,7 +1,6 @@
 use mathlib.Core.Path.{refl}
 use Rattle.isa.specs.declared.Answer.TheVariants as answer
 use Rattle.amx.proofs.Table.{step-needs, step-done, step-no-op, step-refused}
-use borrow.Author.Rules.{rules}
 use Rattle.amx.proofs.step.Goals as goal
 
 pub done-requires : goal.done-requires

@@ -1,6 +1,5 @@
 use mathlib.Core.Path.{sym, ◌∙◌}
 use Rattle.number.proofs.Tests.{pick_true, pick_false}
-use borrow.Author.Rules.{rules}
 use Rattle.loads.proofs.blank.Goals as goal
 
 pub returns-then-y : goal.returns-then-y

@@ -1,6 +1,5 @@
 use native.Mathlib.Omega.{arith}
 use Rattle.loads.proofs.Indices.{first_by}
-use borrow.Author.Rules.{rules}
 use Rattle.loads.proofs.first_bit.Goals as goal
 
 pub returns-then-four : goal.returns-then-four

@@ -2,7 +2,6 @@ use mathlib.Core.Path.{sym, ◌∙◌}
 use native.Mathlib.Omega.{arith}
 use Rattle.number.proofs.Tests.{pick_true, pick_false}
 use Rattle.operand.proofs.Fields.{bits-lt}
-use borrow.Author.Rules.{rules}
 use Rattle.loads.proofs.first_offset.Goals as goal
 
 pub returns-then-y : goal.returns-then-y

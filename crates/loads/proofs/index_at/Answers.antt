@@ -2,7 +2,6 @@ use mathlib.Core.Path.{◌∙◌}
 use Prim.Native.Nat.{◌/◌, ◌%◌, ◌^◌}
 use Rattle.number.specs.Bytes.{byte_at}
 use Rattle.isa.specs.Vecint as Vecint
-use borrow.Author.Rules.{rules}
 use Rattle.loads.proofs.index_at.Goals as goal
 
 pub returns : goal.returns

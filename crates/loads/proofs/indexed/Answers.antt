@@ -1,7 +1,6 @@
 use mathlib.Core.Path.{◌∙◌}
 use Rattle.number.specs.Bytes.{byte_at}
 use Rattle.loads.proofs.Indices.{picked-by}
-use borrow.Author.Rules.{rules}
 use Rattle.loads.proofs.indexed.Goals as goal
 
 pub returns-then-four : goal.returns-then-four

@@ -1,7 +1,6 @@
 use native.Mathlib.Omega.{arith}
 use Rattle.operand.proofs.Fields.{bits-lt}
 use Rattle.loads.proofs.Bytes.{when-indexed}
-use borrow.Author.Rules.{rules}
 use Rattle.loads.proofs.indexed_bytes.Goals as goal
 
 pub overflow_mul-place : goal.overflow_mul-place

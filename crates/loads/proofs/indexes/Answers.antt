@@ -1,7 +1,6 @@
 use mathlib.Core.Path.{sym, ap, ◌∙◌}
 use mathlib.Core.Bool.{not}
 use Rattle.loads.proofs.Indices.{not_indexed, indexed-y, indexed-x}
-use borrow.Author.Rules.{rules}
 use Rattle.loads.proofs.indexes.Goals as goal
 
 pub returns-then-y : goal.returns-then-y

@@ -1,6 +1,5 @@
 use native.Mathlib.Omega.{arith}
 use Rattle.loads.proofs.Indices.{low_by}
-use borrow.Author.Rules.{rules}
 use Rattle.loads.proofs.low_bits.Goals as goal
 
 pub returns-then-four : goal.returns-then-four

@@ -4,7 +4,6 @@ use native.Mathlib.Nat.{mul-le-mul_right}
 use native.Mathlib.Omega.{arith}
 use Rattle.number.proofs.Tests.{pick_true, pick_false}
 use Rattle.loads.specs.Loads.{first_of}
-use borrow.Author.Rules.{rules}
 use Rattle.loads.proofs.offset.Goals as goal
 
 pub returns-then-repeats : goal.returns-then-repeats

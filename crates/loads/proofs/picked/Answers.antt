@@ -1,7 +1,6 @@
 use Rattle.isa.specs.Vecint as Vecint
 use Rattle.number.specs.Bytes.{byte_at}
 use Rattle.loads.proofs.Indices.{of-two-bytes, of-one-byte}
-use borrow.Author.Rules.{rules}
 use Rattle.loads.proofs.picked.Goals as goal
 
 pub returns-then-wide : goal.returns-then-wide

@@ -1,15 +1,8 @@
-use mathlib.Core.Path.{◌≡◌, refl}
-use mathlib.Core.Bool.{Bool}
-use mathlib.Core.List.{List}
-use Prim.Native.Nat.{ℕ, ◌-◌, ◌≤◌}
+use mathlib.Core.Path.{refl}
 use native.Mathlib.Nat.{not-suc-le-zero}
 use native.Mathlib.Omega.{arith}
-use lib.ListN.{length, length-set}
-use Rattle.number.specs.Bytes.{byte_at}
-use Rattle.number.proofs.Fill.{Filled, fill_more, fill-all}
-use Rattle.isa.specs.Vecint as Vecint
-use Rattle.sides.specs.Sides.{lane_bytes}
-use borrow.Author.Rules.{rules}
+use lib.ListN.{length-set}
+use Rattle.number.proofs.Fill.{fill_more, fill-all}
 use Rattle.loads.proofs.picks.Invariants.{byte}
 use Rattle.loads.proofs.picks.Goals as goal
 

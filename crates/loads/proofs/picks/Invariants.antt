@@ -1,15 +1,12 @@
-use mathlib.Core.Path.{◌≡◌, refl}
+use mathlib.Core.Path.{◌≡◌}
 use mathlib.Core.Bool.{Bool}
 use mathlib.Core.List.{List}
 use Prim.Native.Nat.{ℕ, ◌-◌, ◌≤◌}
-use native.Mathlib.Nat.{not-suc-le-zero}
-use native.Mathlib.Omega.{arith}
-use lib.ListN.{length, length-set}
+use lib.ListN.{length}
 use Rattle.number.specs.Bytes.{byte_at}
-use Rattle.number.proofs.Fill.{Filled, fill_more, fill-all}
+use Rattle.number.proofs.Fill.{Filled}
 use Rattle.isa.specs.Vecint as Vecint
 use Rattle.sides.specs.Sides.{lane_bytes}
-use borrow.Author.Rules.{rules}
 use Rattle.loads.proofs.picks.Given as goal
 
 abbrev pub byte : List ℕ → List ℕ → Bool → Bool → ℕ → ℕ

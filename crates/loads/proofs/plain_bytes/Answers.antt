@@ -1,5 +1,4 @@
 use Rattle.loads.proofs.Bytes.{when-plain}
-use borrow.Author.Rules.{rules}
 use Rattle.loads.proofs.plain_bytes.Goals as goal
 
 pub returns : goal.returns

@@ -2,7 +2,6 @@ use mathlib.Core.Path.{sym, ap, ◌∙◌}
 use Prim.Native.Nat.{ℕ}
 use lib.Dec.{eqb}
 use Rattle.number.proofs.Tests.{pick_true, pick_false}
-use borrow.Author.Rules.{rules}
 use Rattle.loads.proofs.wide_lanes.Goals as goal
 
 pub returns-then-y : goal.returns-then-y

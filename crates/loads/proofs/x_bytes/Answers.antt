@@ -3,7 +3,6 @@ use mathlib.Core.Bool.{false}
 use Prim.Native.Nat.{◌%◌}
 use Rattle.number.specs.Bytes.{table}
 use Rattle.loads.proofs.Bytes.{none_left, all_left}
-use borrow.Author.Rules.{rules}
 use Rattle.loads.proofs.x_bytes.Goals as goal
 
 pub returns-then-blank : goal.returns-then-blank

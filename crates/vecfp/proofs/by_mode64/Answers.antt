@@ -1,6 +1,5 @@
 use lib.Ieee.{binary64}
 use Rattle.vecfp.proofs.Alu.{lanes-4, lanes-10, lanes-11, lanes-12}
-use borrow.Author.Rules.{rules}
 use Rattle.vecfp.proofs.by_mode64.Goals as goal
 
 pub returns-then-mode-eq4 : goal.returns-then-mode-eq4

@@ -2,7 +2,6 @@ use Prim.Native.Nat.{◌*◌, ◌≤◌}
 use native.Mathlib.Nat.{mul-le-mul}
 use native.Mathlib.Omega.{arith}
 use Rattle.vecfp.proofs.Counts.{counted}
-use borrow.Author.Rules.{rules}
 use Rattle.vecfp.proofs.bytes_enabled.Goals as goal
 
 pub overflow_mul-result : goal.overflow_mul-result

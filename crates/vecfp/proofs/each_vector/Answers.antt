@@ -2,7 +2,6 @@ use native.Mathlib.Omega.{arith}
 use Rattle.isa.specs.Vecfp as Vecfp
 use Rattle.masks.proofs.Lanes.{lanes-of_rule}
 use Rattle.operand.proofs.Formats.{format-single, format-double}
-use borrow.Author.Rules.{rules}
 use Rattle.vecfp.proofs.each_vector.Goals as goal
 
 pub vectors32-requires : goal.vectors32-requires

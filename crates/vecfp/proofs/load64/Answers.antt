@@ -2,7 +2,6 @@ use mathlib.Core.Bool.{cond}
 use lib.Ieee.{binary64}
 use Rattle.isa.specs.State.{x_base, y_base}
 use Rattle.vecfp.proofs.Sides.{load-words}
-use borrow.Author.Rules.{rules}
 use Rattle.vecfp.proofs.load64.Goals as goal
 
 pub returns : goal.returns

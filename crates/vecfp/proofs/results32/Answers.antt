@@ -2,7 +2,6 @@ use mathlib.Core.Path.{refl}
 use lib.Ieee.{binary32}
 use Rattle.number.specs.Bytes.{table}
 use Rattle.vecfp.proofs.Alu.{results-forced, results-made}
-use borrow.Author.Rules.{rules}
 use Rattle.vecfp.proofs.results32.Goals as goal
 
 pub returns-then-vecfp_overrides : goal.returns-then-vecfp_overrides

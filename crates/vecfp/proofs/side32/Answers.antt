@@ -2,7 +2,6 @@ use mathlib.Core.Path.{refl}
 use lib.Ieee.{binary32}
 use Rattle.number.specs.Bytes.{table}
 use Rattle.vecfp.proofs.Sides.{side-zero, side-own, side-one}
-use borrow.Author.Rules.{rules}
 use Rattle.vecfp.proofs.side32.Goals as goal
 
 pub returns-then-side : goal.returns-then-side

@@ -1,7 +1,6 @@
 use lib.Ieee.{binary64}
 use Rattle.operand.proofs.Rows.{few-vectors}
 use Rattle.vecfp.proofs.Vectors.{vector-meant}
-use borrow.Author.Rules.{rules}
 use Rattle.vecfp.proofs.vector64.Goals as goal
 
 pub x_side-requires : goal.x_side-requires

@@ -2,7 +2,6 @@ use Prim.Native.Nat.{◌*◌, ◌≤◌}
 use native.Mathlib.Nat.{mul-le-mul}
 use native.Mathlib.Omega.{arith}
 use Rattle.vecfp.proofs.Counts.{vector-counted}
-use borrow.Author.Rules.{rules}
 use Rattle.vecfp.proofs.vector_bytes.Goals as goal
 
 pub overflow_mul-result : goal.overflow_mul-result

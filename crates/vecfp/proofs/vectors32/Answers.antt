@@ -1,8 +1,7 @@
 use mathlib.Core.Path.{sym, ◌∙◌, subst}
-use Prim.Native.Nat.{ℕ, ◌<◌, ◌-◌}
+use Prim.Native.Nat.{ℕ, ◌<◌}
 use native.Mathlib.Omega.{arith}
-use borrow.Author.Rules.{rules}
-use Rattle.vecfp.proofs.VectorsLoop.{Done, done_none, done_more, done_all}
+use Rattle.vecfp.proofs.VectorsLoop.{done_none, done_more, done_all}
 use Rattle.vecfp.proofs.vectors32.Goals as goal
 
 pub loop-v-init : goal.loop-v-init

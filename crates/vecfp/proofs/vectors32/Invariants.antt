@@ -1,8 +1,5 @@
-use mathlib.Core.Path.{sym, ◌∙◌, subst}
-use Prim.Native.Nat.{ℕ, ◌<◌, ◌-◌}
-use native.Mathlib.Omega.{arith}
-use borrow.Author.Rules.{rules}
-use Rattle.vecfp.proofs.VectorsLoop.{Done, done_none, done_more, done_all}
+use Prim.Native.Nat.{◌-◌}
+use Rattle.vecfp.proofs.VectorsLoop.{Done}
 use Rattle.vecfp.proofs.vectors32.Given as goal
 
 abbrev pub invariant-loop-v : goal.invariant-loop-v

@@ -4,7 +4,6 @@ use mathlib.Core.Bool.{false, cond}
 use native.Mathlib.Omega.{arith}
 use Rattle.isa.specs.Vecfp as Vecfp
 use Rattle.operand.proofs.Fields.{bits-lt}
-use borrow.Author.Rules.{rules}
 use Rattle.vecfp.proofs.x_side.Goals as goal
 
 pub offset-requires : goal.offset-requires

@@ -1,7 +1,6 @@
 use mathlib.Core.Path.{sym, ◌∙◌}
 use Rattle.number.proofs.Tests.{pick_true}
 use Rattle.vecfp.proofs.Sides.{y-several, y-fixed, y-own}
-use borrow.Author.Rules.{rules}
 use Rattle.vecfp.proofs.y_lane.Goals as goal
 
 pub returns-then-broadcasts : goal.returns-then-broadcasts

@@ -4,7 +4,6 @@ use mathlib.Core.Bool.{true, cond}
 use native.Mathlib.Omega.{arith}
 use Rattle.isa.specs.Vecfp as Vecfp
 use Rattle.operand.proofs.Fields.{bits-lt}
-use borrow.Author.Rules.{rules}
 use Rattle.vecfp.proofs.y_side.Goals as goal
 
 pub offset-requires : goal.offset-requires

@@ -1,4 +1,4 @@
-use Rattle.std.proofs.Common.{not, eqb, sym, ap, ◌∙◌, rules}
+use Rattle.std.proofs.Common.{not, eqb, sym, ap, ◌∙◌}
 use Rattle.number.proofs.Tests.{pick_true, pick_false}
 use Rattle.vecint.specs.Modes.{sums_in, y_alone, negates_in, alu_by}
 use Rattle.vecint.proofs.alu_by.Goals as goal

@@ -1,4 +1,4 @@
-use Rattle.std.proofs.Common.{◌*◌, ◌≤◌, Bool, sym, ◌∙◌, subst, arith, rules}
+use Rattle.std.proofs.Common.{◌*◌, ◌≤◌, Bool, sym, ◌∙◌, subst, arith}
 use Rattle.isa.specs.Effect.{applied}
 use Rattle.vecint.specs.Accumulation.{z_lanes, row_of}
 use Rattle.vecint.proofs.alu_row.Goals as goal

@@ -1,9 +1,7 @@
-use Rattle.std.proofs.Common.{◌+◌, ◌-◌, ◌*◌, ◌≤◌, false, get_or, pos, sym, refl, ◌∙◌, arith, to_z-of_z, w32, rules}
-use borrow.Author.Rules.{sfits_of}
-use Rattle.vecint.specs.Accumulation.{accumulate, lane_stored}
+use Rattle.std.proofs.Common.{◌+◌, ◌-◌, ◌*◌, ◌≤◌, false, get_or, refl}
+use Rattle.vecint.specs.Accumulation.{accumulate}
 use Rattle.state.proofs.Holds.{Bytes}
-use Rattle.state.proofs.Dealing.{Lanes, lanes-none, lanes-more, lanes_all}
-use Rattle.vecint.proofs.Bounds.{place_in, lane-at}
+use Rattle.state.proofs.Dealing.{Lanes}
 use Rattle.vecint.proofs.alu_row16.Given as goal
 
 abbrev pub invariant-loop-l : goal.invariant-loop-l

@@ -1,8 +1,7 @@
-use Rattle.std.proofs.Common.{◌-◌, ◌≤◌, false, get_or, sym, ◌∙◌, arith, rules}
+use Rattle.std.proofs.Common.{false, get_or, sym, ◌∙◌, arith}
 use Rattle.vecint.specs.Accumulation.{z_bytes, z_lanes, accumulate}
-use Rattle.state.proofs.Holds.{Bytes}
 use Rattle.vecint.proofs.Bounds.{fits}
-use Rattle.state.proofs.Dealing.{RowsTo, rows_none, rows-one-more, rows_all}
+use Rattle.state.proofs.Dealing.{rows_none, rows-one-more, rows_all}
 use Rattle.vecint.proofs.alu_rows.Goals as goal
 
 pub loop-q-init : goal.loop-q-init

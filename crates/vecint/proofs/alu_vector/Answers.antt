@@ -1,4 +1,4 @@
-use Rattle.std.proofs.Common.{ℕ, eqb, length, ap, ◌∙◌, rules}
+use Rattle.std.proofs.Common.{ℕ, eqb, length, ap, ◌∙◌}
 use Rattle.isa.proofs.Applied.{length-applied}
 use Rattle.operand.proofs.Rows.{first-row-of}
 use Rattle.vecint.proofs.VectorMeant.{few-vectors, rows_fit, vector-meant}

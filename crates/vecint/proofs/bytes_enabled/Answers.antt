@@ -1,4 +1,4 @@
-use Rattle.std.proofs.Common.{◌*◌, ◌≤◌, mul-le-mul, arith, rules}
+use Rattle.std.proofs.Common.{◌*◌, ◌≤◌, mul-le-mul, arith}
 use Rattle.vecint.proofs.Counts.{counted}
 use Rattle.vecint.proofs.bytes_enabled.Goals as goal
 

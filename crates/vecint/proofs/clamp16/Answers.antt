@@ -1,4 +1,4 @@
-use Rattle.std.proofs.Common.{cond, ℤ, pos, negsuc, ◌+ℤ◌, neg_ℤ, ap, ◌∙◌, ap₂, to_z-of_z, w16, w32, w64, rules}
+use Rattle.std.proofs.Common.{cond, ℤ, pos, negsuc, ◌+ℤ◌, neg_ℤ, ap, ◌∙◌, ap₂, to_z-of_z, w16, w32, w64}
 use mir.Facts.{sfits_widen}
 use borrow.Author.Rules.{sfits_of}
 use Rattle.number.specs.Bytes.{span}

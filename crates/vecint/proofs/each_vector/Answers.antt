@@ -1,6 +1,5 @@
-use Rattle.std.proofs.Common.{ℕ, ◌-◌, ◌<◌, ◌≤◌, sym, ◌∙◌, subst, arith, rules}
-use Rattle.state.proofs.Holds.{Bytes}
-use Rattle.vecint.proofs.VectorsLoop.{VectorsTo, vectors-none, vectors-more, vectors-all}
+use Rattle.std.proofs.Common.{ℕ, ◌<◌, ◌≤◌, sym, ◌∙◌, subst, arith}
+use Rattle.vecint.proofs.VectorsLoop.{vectors-none, vectors-more, vectors-all}
 use Rattle.vecint.proofs.each_vector.Goals as goal
 
 pub loop-v-init : goal.loop-v-init

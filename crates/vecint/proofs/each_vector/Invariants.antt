@@ -1,6 +1,6 @@
-use Rattle.std.proofs.Common.{ℕ, ◌-◌, ◌<◌, ◌≤◌, sym, ◌∙◌, subst, arith, rules}
+use Rattle.std.proofs.Common.{◌-◌, ◌≤◌}
 use Rattle.state.proofs.Holds.{Bytes}
-use Rattle.vecint.proofs.VectorsLoop.{VectorsTo, vectors-none, vectors-more, vectors-all}
+use Rattle.vecint.proofs.VectorsLoop.{VectorsTo}
 use Rattle.vecint.proofs.each_vector.Given as goal
 
 abbrev pub invariant-loop-v : goal.invariant-loop-v

@@ -1,4 +1,4 @@
-use Rattle.std.proofs.Common.{ℕ, eqb, sym, ap, ◌∙◌, rules}
+use Rattle.std.proofs.Common.{ℕ, eqb, sym, ap, ◌∙◌}
 use Rattle.number.proofs.Tests.{pick_true, pick_false}
 use Rattle.vecint.proofs.fixed_y.Goals as goal
 

@@ -1,4 +1,4 @@
-use Rattle.std.proofs.Common.{ℕ, true, cond, ℤ, refl, ap, ◌∙◌, ap₂, to_z-of_z, rules}
+use Rattle.std.proofs.Common.{ℕ, true, cond, ℤ, refl, ap, ◌∙◌, ap₂, to_z-of_z}
 use Rattle.number.specs.Bytes.{span, bytes_of}
 use Rattle.number.specs.Integers.{signed, wrap}
 use Rattle.vecint.proofs.Lanes.{wide-summed}

@@ -1,4 +1,4 @@
-use Rattle.std.proofs.Common.{sym, ◌∙◌, rules}
+use Rattle.std.proofs.Common.{sym, ◌∙◌}
 use Rattle.number.proofs.Tests.{pick_true, pick_false}
 use Rattle.vecint.proofs.lane_y.Goals as goal
 

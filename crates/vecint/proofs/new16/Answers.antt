@@ -1,4 +1,4 @@
-use Rattle.std.proofs.Common.{ℤ, ap, ◌∙◌, to_z-of_z, rules}
+use Rattle.std.proofs.Common.{ℤ, ap, ◌∙◌, to_z-of_z}
 use Rattle.number.specs.Bytes.{span}
 use Rattle.number.specs.Integers.{signed, wrap}
 use Rattle.vecint.proofs.Lanes.{is-clamped, is-summed}

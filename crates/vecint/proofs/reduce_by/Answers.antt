@@ -1,4 +1,3 @@
-use Rattle.std.proofs.Common.{rules}
 use Rattle.vecint.proofs.reduce_by.Goals as goal
 
 pub returns : goal.returns

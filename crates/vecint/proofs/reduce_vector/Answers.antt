@@ -1,4 +1,4 @@
-use Rattle.std.proofs.Common.{◌-◌, ◌∙◌, rules}
+use Rattle.std.proofs.Common.{◌∙◌}
 use Rattle.operand.proofs.Rows.{first-row-of}
 use Rattle.vecint.proofs.ReduceMeant.{reduce-meant}
 use Rattle.vecint.proofs.reduce_vector.Goals as goal

@@ -1,4 +1,4 @@
-use Rattle.std.proofs.Common.{ℤ, neg_ℤ, sym, ap, ◌∙◌, to_z-of_z, rules}
+use Rattle.std.proofs.Common.{ℤ, neg_ℤ, sym, ap, ◌∙◌, to_z-of_z}
 use borrow.Author.Rules.{sfits_of}
 use Rattle.number.specs.Integers.{kept}
 use Rattle.number.proofs.Tests.{pick_true, pick_false}

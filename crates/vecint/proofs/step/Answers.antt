@@ -1,4 +1,4 @@
-use Rattle.std.proofs.Common.{◌||◌, length, sym, ◌∙◌, arith, rules, eq-eqb, ne_eqb}
+use Rattle.std.proofs.Common.{◌||◌, length, sym, ◌∙◌, arith, eq-eqb, ne_eqb}
 use Rattle.number.proofs.Tests.{pick_true, pick_false}
 use Rattle.isa.specs.Vecint as Vecint
 use Rattle.masks.proofs.Lanes.{lanes-of_rule}

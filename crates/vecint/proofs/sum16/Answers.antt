@@ -1,4 +1,4 @@
-use Rattle.std.proofs.Common.{ap, ◌∙◌, arith, to_z-of_z, w32, w64, rules}
+use Rattle.std.proofs.Common.{ap, ◌∙◌, arith, to_z-of_z, w32, w64}
 use mir.Facts.{sfits_widen}
 use Rattle.number.specs.Bytes.{span}
 use Rattle.number.specs.Integers.{wrap}

@@ -1,4 +1,4 @@
-use Rattle.std.proofs.Common.{◌-◌, sym, ◌∙◌, rules}
+use Rattle.std.proofs.Common.{sym, ◌∙◌}
 use Rattle.vecint.proofs.vector.Goals as goal
 
 pub reduce_vector-requires : goal.reduce_vector-requires

@@ -1,4 +1,4 @@
-use Rattle.std.proofs.Common.{◌*◌, ◌≤◌, mul-le-mul, arith, rules}
+use Rattle.std.proofs.Common.{◌*◌, ◌≤◌, mul-le-mul, arith}
 use Rattle.vecint.proofs.Counts.{all-bytes, some_bytes}
 use Rattle.vecint.proofs.vector_bytes.Goals as goal
 

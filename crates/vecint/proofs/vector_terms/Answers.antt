@@ -1,5 +1,4 @@
 use Rattle.vecint.proofs.SideLanes.{terms_held}
-use Rattle.std.proofs.Common.{rules}
 use Rattle.vecint.proofs.vector_terms.Goals as goal
 
 pub returns : goal.returns

@@ -1,4 +1,4 @@
-use Rattle.std.proofs.Common.{sym, ◌∙◌, rules, eq-eqb, ne_eqb}
+use Rattle.std.proofs.Common.{sym, ◌∙◌, eq-eqb, ne_eqb}
 use Rattle.number.proofs.Tests.{pick_true, pick_false}
 use Rattle.vecint.specs.Modes.{y_alone}
 use Rattle.vecint.proofs.y_alone.Goals as goal

@@ -1,4 +1,4 @@
-use Rattle.std.proofs.Common.{eqb, rules}
+use Rattle.std.proofs.Common.{eqb}
 use Rattle.vecint.proofs.y_side.Goals as goal
 
 pub returns : goal.returns
