@@ -12,11 +12,10 @@ ghost use Rattle.trace.specs.Reading.{Says, Told};
 ghost use Rattle.disk.specs.Got.{Within, HeadOf, HeadRead, Looked, Checks};
 ghost use Rattle.disk.specs.Shown.{Holds, RunSays, Wrote, Turned, Alone};
 
-use std::fmt;
 use std::fmt::Write;
 use std::fs::File;
-use std::io;
 use std::io::{ErrorKind, Read, Seek, SeekFrom};
+use std::{fmt, io};
 
 // An open file, and why it could not be read, where that was so.
 #[derive(Drop)]
@@ -200,7 +199,15 @@ fn print_refused(rt: &HostRuntime, head: &[u8], out: &mut [u8], refusal: file::F
 }
 
 // What ends a text, when all n steps are run.
-fn print_end(rt: &HostRuntime, head: &[u8], state: &[u8], out: &mut [u8], n: u32, at: u64, behind: &[u8]) -> Shown
+fn print_end(
+    rt: &HostRuntime,
+    head: &[u8],
+    state: &[u8],
+    out: &mut [u8],
+    n: u32,
+    at: u64,
+    behind: &[u8],
+) -> Shown
     requires { Told head.now n n state.now at × (steps_base head.now ≤ length head.now) × (at < 2 ^ 63) × (room_length ≤ length out.old) }
     ensures { Holds result }
 {
@@ -260,7 +267,15 @@ fn print_run(
 }
 
 // All steps from a number on, in runs of at most 2,048.
-fn print_runs(rt: &HostRuntime, source: &mut Source, head: &[u8], state: &mut [u8], out: &mut [u8], from: u32, n: u32) -> Turn
+fn print_runs(
+    rt: &HostRuntime,
+    source: &mut Source,
+    head: &[u8],
+    state: &mut [u8],
+    out: &mut [u8],
+    from: u32,
+    n: u32,
+) -> Turn
     requires { Told head.now n from state.old 0 × (from ≤ n) × (n ≤ most_steps) × (room_length ≤ length out.old) }
     ensures { Turned result head.now n n state.new (2 ^ 40) }
 {
@@ -342,7 +357,14 @@ fn check_runs(source: &mut Source, n: u32) -> Checked
 }
 
 // The steps that are not consumed, read again and run from the checkpoint's state. They are looked at again as they are read.
-fn print_again(rt: &HostRuntime, source: &mut Source, head: &[u8], last: &[u8], out: &mut [u8], n: u32) -> Shown
+fn print_again(
+    rt: &HostRuntime,
+    source: &mut Source,
+    head: &[u8],
+    last: &[u8],
+    out: &mut [u8],
+    n: u32,
+) -> Shown
     requires { Told head.now n (number 4 (byte_at last.now) 0) (bytes_from last.now 4 state_length) 0
         × (number 4 (byte_at last.now) 0 ≤ n) × (n ≤ most_steps) × (steps_base head.now ≤ length head.now) × (room_length ≤ length out.old) }
     ensures { Holds result }
@@ -362,7 +384,14 @@ fn print_again(rt: &HostRuntime, source: &mut Source, head: &[u8], last: &[u8], 
 }
 
 // What is behind n whole steps decides: the checkpoint, and no more.
-fn print_closed(rt: &HostRuntime, source: &mut Source, head: &[u8], out: &mut [u8], n: u32, clear: bool) -> Shown
+fn print_closed(
+    rt: &HostRuntime,
+    source: &mut Source,
+    head: &[u8],
+    out: &mut [u8],
+    n: u32,
+    clear: bool,
+) -> Shown
     requires { (head_as head.now ≡ Steps n) × (has_checkpoint head.now ≡ true) × HeadOf head.now × Looked n clear × (room_length ≤ length out.old) }
     ensures { Holds result }
 {
@@ -378,7 +407,13 @@ fn print_closed(rt: &HostRuntime, source: &mut Source, head: &[u8], out: &mut [u
     }
 }
 
-fn print_checked(rt: &HostRuntime, source: &mut Source, head: &[u8], out: &mut [u8], n: u32) -> Shown
+fn print_checked(
+    rt: &HostRuntime,
+    source: &mut Source,
+    head: &[u8],
+    out: &mut [u8],
+    n: u32,
+) -> Shown
     requires { (head_as head.now ≡ Steps n) × (has_checkpoint head.now ≡ true) × HeadOf head.now × (room_length ≤ length out.old) }
     ensures { Holds result }
 {
@@ -440,7 +475,9 @@ pub fn print_file(rt: &HostRuntime, path: &[u8]) -> Shown
     match open_source(rt, path) {
         Ok(mut source) => {
             let shown = print_fd(rt, &mut source);
-            if let Shown::Unreadable = shown && let Some(error) = source.failure {
+            if let Shown::Unreadable = shown
+                && let Some(error) = source.failure
+            {
                 say_failed(rt, path, error);
             }
             shown
