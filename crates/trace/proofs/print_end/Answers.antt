@@ -1,5 +1,4 @@
 use Rattle.trace.proofs.Room.{ends-behind, ends-here}
-use borrow.Author.Rules.{rules}
 use Rattle.trace.proofs.print_end.Goals as goal
 
 pub returns-then-behind-gt0 : goal.returns-then-behind-gt0

@@ -1,7 +1,6 @@
 use Rattle.file.specs.File.{file_refusal_number}
 use Rattle.text.specs.Lines.{refused_line}
 use Rattle.trace.proofs.Room.{refused-stored, stored_front}
-use borrow.Author.Rules.{rules}
 use Rattle.trace.proofs.print_refused.Goals as goal
 
 pub returns : goal.returns

@@ -1,8 +1,6 @@
-use borrow.Author.Tests.{not-true, not-false}
 use Rattle.text.specs.Lines.{z_line}
 use Rattle.trace.specs.Trace.{row_line}
 use Rattle.trace.proofs.Rows.{line-none, line-there, line-fits, row_kept, row-printed}
-use borrow.Author.Rules.{rules}
 use Rattle.trace.proofs.print_row.Goals as goal
 
 pub returns-then-not-rows_differ : goal.returns-then-not-rows_differ

@@ -1,10 +1,7 @@
 use mathlib.Core.Path.{refl, ap, ◌∙◌}
-use Prim.Native.Nat.{◌-◌, ◌*◌, ◌≤◌}
 use native.Mathlib.Omega.{arith}
 use lib.ListN.{length}
 use lib.Seq.{length-sets}
-use borrow.Author.Rules.{rules}
-use Rattle.text.proofs.Pieces.{Stored}
 use Rattle.trace.specs.Trace.{row_lines, z_lines}
 use Rattle.trace.proofs.Rows.{rows_more, rows_all}
 use Rattle.trace.proofs.Room.{stored_front}

@@ -1,7 +1,6 @@
 use native.Mathlib.Omega.{arith}
 use Rattle.file.proofs.Sound.{sound-most}
 use Rattle.trace.proofs.Room.{lent_length, lent-calls, runs_on, runs-stop, refused-stored}
-use borrow.Author.Rules.{rules}
 use Rattle.trace.proofs.print_run.Goals as goal
 
 pub overflow_mul-k : goal.overflow_mul-k

@@ -1,11 +1,10 @@
-use borrow.Author.Rules.{rules}
 use Rattle.number.specs.Bytes.{byte_at}
-use Rattle.number.proofs.Fill.{Filled, fill_more, fill-all}
+use Rattle.number.proofs.Fill.{fill_more, fill-all}
 use native.Mathlib.Nat.{not-suc-le-zero}
-use lib.ListN.{length, length-set}
-use Prim.Native.Nat.{◌+◌, ◌-◌, ◌≤◌}
+use lib.ListN.{length-set}
+use Prim.Native.Nat.{◌+◌}
 use native.Mathlib.Omega.{arith}
-use mathlib.Core.Path.{◌≡◌, refl}
+use mathlib.Core.Path.{refl}
 use Rattle.trace.proofs.row_at.Goals as goal
 
 pub loop-k-init : goal.loop-k-init

@@ -1,11 +1,8 @@
-use borrow.Author.Rules.{rules}
 use Rattle.number.specs.Bytes.{byte_at}
-use Rattle.number.proofs.Fill.{Filled, fill_more, fill-all}
-use native.Mathlib.Nat.{not-suc-le-zero}
-use lib.ListN.{length, length-set}
+use Rattle.number.proofs.Fill.{Filled}
+use lib.ListN.{length}
 use Prim.Native.Nat.{◌+◌, ◌-◌, ◌≤◌}
-use native.Mathlib.Omega.{arith}
-use mathlib.Core.Path.{◌≡◌, refl}
+use mathlib.Core.Path.{◌≡◌}
 use Rattle.trace.proofs.row_at.Given as goal
 
 abbrev pub invariant-loop-k : goal.invariant-loop-k

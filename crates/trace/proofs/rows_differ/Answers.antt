@@ -1,8 +1,6 @@
-use borrow.Author.Rules.{rules}
 use native.Mathlib.Nat.{not-suc-le-zero}
-use Prim.Native.Nat.{◌-◌, ◌≤◌}
 use native.Mathlib.Omega.{arith}
-use Rattle.trace.proofs.Rows.{Same, same_more, differ-at, differ-not}
+use Rattle.trace.proofs.Rows.{same_more, differ-at, differ-not}
 use Rattle.trace.proofs.rows_differ.Goals as goal
 
 pub loop-k-init : goal.loop-k-init
