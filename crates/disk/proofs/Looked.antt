@@ -1,28 +1,23 @@
 -- Steps that are read and looked at, a run after another.
 -- Assumes nothing.
-use mathlib.Core.Path.{◌≡◌, refl, sym, ap, subst, ◌∙◌}
+use mathlib.Core.Path.{◌≡◌, refl, sym, ap, ◌∙◌}
 use mathlib.Core.Bool.{Bool, true, false, not, cond, ◌&&◌}
-use mathlib.Core.List.{List, [], ◌∷◌, ◌++◌}
+use mathlib.Core.List.{List, [], ◌++◌}
 use mathlib.Core.Logic.{⊎_elim}
 use Prim.Native.Nat.{ℕ, zero, suc, ◌+◌, ◌*◌, ◌≤◌, ◌<◌}
 use native.Mathlib.Nat.{add-zero, add-suc}
 use native.Mathlib.Omega.{arith}
 use borrow.Author.Tests.{eq-eqb, ne_eqb}
-use types.Run.{OneOf}
-use denote.Enum.Declared.{tag_of}
 use lib.Dec.{eqb}
-use lib.ListN.{length, take, length-append, get_or-append}
-use lib.Seq.{length-take-le, get_or-append-add}
+use lib.ListN.{length, length-append, get_or-append}
+use lib.Seq.{get_or-append-add}
 use Rattle.number.specs.Bytes.{byte_at}
 use Rattle.number.proofs.Tests.{true_false, lt_or_le, two}
 use Rattle.file.specs.File.{run_steps, run_of, step_at, padding_clear, paddings_clear, sound_in}
 use Rattle.file.proofs.Sound.{sound-there, sound-clear, sound-before, sound-is, padding-moved}
 use Rattle.file.proofs.Paddings.{all-at, all_true, paddings-none}
 use Rattle.file.proofs.Records.{run-few, run-most}
-use Rattle.disk.specs.declared.Checked.{Checked}
-use Rattle.disk.specs.declared.Checked.TheVariants.{Whole, Cut, Unread}
-use Rattle.disk.specs.Got.{Looked, CutShort, Checks}
-use Rattle.disk.specs.contracts.Checked.{the_type}
+use Rattle.disk.specs.Got.{Looked}
 
 -- ---- one run
 
@@ -46,12 +41,6 @@ module _ (part : List ℕ) (m : ℕ) (whole : length part ≡ 16 * m) where
 
   pub looked-run : (k : ℕ) → k ≡ sound_in part m → Looked m (eqb k m)
   looked-run k e = record { bytes = part; whole = whole; told = ap (λ (j : ℕ). eqb j m) e ∙ sound-is-clear }
-
-  pub cut-run : (size : ℕ) → size < length part → CutShort m
-  cut-run size h = record { bytes = take size part; less = omega (arith, h, whole, length-take-le size part (omega (arith, h))) }
-
-pub looked_whole : (checked : Checked) (m : ℕ) (sound : Bool) → checked ≡ Whole sound → Checks checked m → Looked m sound
-looked_whole checked m sound e run = subst (λ (k : Checked). Checks k m) e run
 
 -- ---- a run behind others
 
@@ -102,11 +91,6 @@ module _ (xs ys : List ℕ) (i : ℕ) (whole : length xs ≡ 16 * i) where
 pub looked_none : Looked 0 true
 looked_none = record { bytes = []; whole = refl; told = sym (paddings-none []) }
 
-pub looked_all : (n i : ℕ) (clear : Bool) → i ≤ n → n ≤ i → Looked i clear → Looked n clear
-looked_all n i clear h l looked =
-    let same : i ≡ n = omega (arith, h, l) in
-    subst (λ (k : ℕ). Looked k clear) same looked
-
 module _ (i m : ℕ) (clear : Bool) (before : Looked i clear) where
   pub looked-next : (sound clear' : Bool) → Looked m sound → clear' ≡ clear && sound → Looked (i + m) clear'
   looked-next sound clear' run e =
@@ -117,18 +101,6 @@ module _ (i m : ℕ) (clear : Bool) (before : Looked i clear) where
         whole = omega (arith, length-append xs ys, before.whole, run.whole);
         told = e ∙ (λ t. before.told t && run.told t) ∙ sym (paddings-both xs ys i before.whole m);
       }
-
-  cut-next : (n : ℕ) → i + m ≤ n → CutShort m → CutShort n
-  cut-next n h run =
-      let xs = before.bytes in
-      let ys = run.bytes in
-      record { bytes = xs ++ ys; less = omega (arith, h, length-append xs ys, before.whole, run.less) }
-
-  -- a run that is not whole ends the looking
-  pub stops-next : (n : ℕ) (checked : Checked) → OneOf (1 ∷ 2 ∷ []) (tag_of the_type checked) → i + m ≤ n → Checks checked m → Checks checked n
-  stops-next n (Whole sound) k h run = absurd (⊎_elim (λ e. omega (arith, e)) (λ e. omega (arith, e)) k)
-  stops-next n Cut k h run = cut-next n h run
-  stops-next n Unread k h run = tt
 
 -- while steps are left, a run has one
 pub run-some : (left m : ℕ) → m ≡ run_of left → 0 < left → 0 < m

@@ -13,12 +13,8 @@ use Rattle.number.proofs.Tests.{true_false}
 use Rattle.file.specs.File.{has_checkpoint}
 use Rattle.trace.proofs.Begins.{has-alike}
 use Rattle.disk.specs.Got.{Within, HeadRead}
-use Rattle.disk.specs.Shown.{IsPrefixLen}
 use Rattle.disk.specs.declared.Got.{Got}
 use Rattle.disk.specs.declared.Got.TheVariants.{Bytes}
-
-pub prefix_len_of_le : (n : ℕ) (xs : List ℕ) → n ≤ length xs → IsPrefixLen n xs
-prefix_len_of_le n xs h = (h, sym (length-take-le n xs h))
 
 pub within : (got : Got) (n size : ℕ) → got ≡ Bytes n → Within got size → n ≤ size
 within got n size e w = subst (λ (g : Got). Within g size) e w

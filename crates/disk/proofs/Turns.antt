@@ -12,7 +12,7 @@ use Rattle.trace.specs.Reading.{Told}
 use Rattle.disk.specs.declared.Shown.{Shown}
 use Rattle.disk.specs.declared.Turn.{Turn}
 use Rattle.disk.specs.declared.Turn.TheVariants.{On, Over}
-use Rattle.disk.specs.Shown.{Holds, Turned}
+use Rattle.disk.specs.Shown.{Turned}
 
 -- a run's bytes, lent as a part of a buffer
 pub part_run : (part : List ℕ) (m left : ℕ) → 16 * m ≤ length part → m ≡ run_of left → length (take (16 * m) part) ≡ 16 * run_of left
@@ -24,9 +24,6 @@ module _ (head : List ℕ) (n : ℕ) where
       → Turned turn head n j t at'
   turned-over turn shown i j s t at at' e w =
       subst (λ (x : Turn). Turned x head n j t at') (sym e) (subst (λ (x : Turn). Turned x head n i s at) e w)
-
-  pub over-holds : (turn : Turn) (shown : Shown) (i : ℕ) (s : List ℕ) (at : ℕ) → turn ≡ Over shown → Turned turn head n i s at → Holds shown
-  over-holds turn shown i s at e w = subst (λ (x : Turn). Turned x head n i s at) e w
 
   -- or it goes on
   pub turned_on : (turn : Turn) (next i : ℕ) (s : List ℕ) (at : ℕ) → turn ≡ On next → Turned turn head n i s at

@@ -190,12 +190,3 @@ module _ (head : List ℕ) (n i : ℕ) (s : List ℕ) (at : ℕ) (told : Told he
       let stop = answer-stopped m i s part size e in
       subst Ended (sym w) (ended_at head lines at size stop.1 (stopped stop.0).1)
   run-turned (Stopped size) s' (Over Unreadable) e state w = absurd w
-
--- ---- a run's answer by its cases
-
-module _ (head : List ℕ) (at : ℕ) (out : List ℕ) (r r' : Ran) (e : r ≡ r') where
-  pub case-says : RunSays r head at out → RunSays r' head at out
-  case-says says = subst (λ (x : Ran). RunSays x head at out) e says
-
-  pub case-wrote : (t : Turn) → Wrote r' at t → Wrote r at t
-  case-wrote t w = subst (λ (x : Ran). Wrote x at t) (sym e) w

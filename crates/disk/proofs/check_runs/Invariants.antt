@@ -1,6 +1,4 @@
-use mathlib.Core.Path.{◌≡◌}
 use Prim.Native.Nat.{◌-◌, ◌≤◌}
-use lib.ListN.{length}
 use Rattle.disk.specs.Got.{Looked}
 use Rattle.disk.proofs.check_runs.Given as goal
 

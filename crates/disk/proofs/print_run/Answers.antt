@@ -1,4 +1,4 @@
-use lib.ListN.{length, take}
+use lib.ListN.{take}
 use native.Mathlib.Omega.{arith}
 use Rattle.disk.proofs.Reading.{part_most}
 use Rattle.disk.proofs.Writing.{run-says, run-turned}
