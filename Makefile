@@ -20,8 +20,8 @@ lib:
 
 # rt runs what it builds
 trace:
-	cd crates/amx_trace && rt run -- ../traces/data/product.trace > /dev/null
 	@mkdir -p target/bin
+	(cd crates/amx_trace && rt run -- ../traces/data/product.trace) > target/trace.log || { cat target/trace.log; exit 1; }
 	@cmp -s crates/amx_trace/out/amx_trace target/bin/amx_trace || cp crates/amx_trace/out/amx_trace target/bin/amx_trace
 
 host: lib trace
