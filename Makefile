@@ -18,10 +18,10 @@ lib:
 	@mkdir -p target/staticlib
 	@cmp -s crates/amx_c/out/libamx_c.a target/staticlib/libamx.a || cp crates/amx_c/out/libamx_c.a target/staticlib/libamx.a
 
-# rt runs what it builds
+# rt runs what it builds, for any x86-64 too
 trace:
 	@mkdir -p target/bin
-	(cd crates/amx_trace && rt run -- ../traces/data/product.trace) > target/trace.log || { cat target/trace.log; exit 1; }
+	(cd crates/amx_trace && rt run --cpu=x86-64 -- ../traces/data/product.trace) > target/trace.log || { cat target/trace.log; exit 1; }
 	@cmp -s crates/amx_trace/out/amx_trace target/bin/amx_trace || cp crates/amx_trace/out/amx_trace target/bin/amx_trace
 
 host: lib trace

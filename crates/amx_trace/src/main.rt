@@ -2,10 +2,12 @@
 #![tactic(auto)]
 
 use std::env::{Env, FillError};
-use std::io;
 
-// ENAMETOOLONG of Linux
-const NAME_TOO_LONG: i32 = 36;
+// A name that is too long for a path: its first bytes are named.
+fn say_too_long(rt: &HostRuntime, start: &[u8]) {
+    let _ = rt.stderr().write_all(start);
+    let _ = rt.stderr().write_all(b": File name too long\n");
+}
 
 fn say_usage(rt: &HostRuntime) {
     let _ = rt.stderr().write_all(b"usage: amx_trace FILE\n");
@@ -28,9 +30,6 @@ fn main(rt: HostRuntime) {
         Ok(n) => {
             disk::print_file(&rt, &path[..n]);
         }
-        // A name that is too long for a path: its first bytes are named.
-        Err(FillError::TooLong) => {
-            disk::say_failed(&rt, &path, io::Error::from_raw_os_error(NAME_TOO_LONG));
-        }
+        Err(FillError::TooLong) => say_too_long(&rt, &path),
     }
 }

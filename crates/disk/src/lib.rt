@@ -158,7 +158,7 @@ fn say_reason(rt: &HostRuntime, words: &[u8]) {
 }
 
 // Writes a line to standard error: what failed, a colon and why.
-pub fn say_failed(rt: &HostRuntime, what: &[u8], error: io::Error) {
+fn say_failed(rt: &HostRuntime, what: &[u8], error: io::Error) {
     let mut words = Words {
         bytes: [0; 320],
         length: 0,
