@@ -11,7 +11,8 @@ use Rattle.isa.specs.Operand.{bits, bit, cleared}
 use Rattle.isa.specs.Mac16 as Mac16
 use Rattle.isa.specs.Vecint as Vecint
 use Rattle.isa.specs.Fms64 as Fms64
-use Rattle.isa.specs.Normal.{ignored_by_all, ignored_by_form, mac16_ignored, vecint_ignored, vecfp_always, vecfp_ignored, fms64_ignored_if, fms64_ignored, cleared_all}
+use Rattle.isa.specs.Normal.{ignored_by_all, ignored_by_form, mac16_ignored, vecint_ignored, vecfp_always, vecfp_ignored, fms64_ignored_if}
+use Rattle.isa.specs.Normal.{fms64_ignored, cleared_all}
 use Rattle.isa.specs.Normal.{ignored_always, ignored_by_vectors, ignored_by_value, ignored_by_mode, ignored_by_load, ignored_by_rows}
 use Rattle.isa.proofs.Clear.{cleared-zero}
 use Rattle.operand.proofs.Fields.{field_past}

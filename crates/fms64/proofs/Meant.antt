@@ -65,7 +65,8 @@ module _ (op : ℕ) (s r : List ℕ) where
   unfolding terms_of table
   no-terms hx hy er = er ∙ sym (λ i. table (λ l. term (hx i) (hy i) (x_lane op s l) (y_lane op s l)) 0 8)
 
-  pub y-terms : skips_x op ≡ true → skips_y op ≡ false → (k : ℕ) → k ≡ bits op 0 8 → r ≡ table (λ l. number 8 (loaded s y_base k) (8 * l)) 0 8 → r ≡ terms_of op s
+  pub y-terms : skips_x op ≡ true → skips_y op ≡ false → (k : ℕ) → k ≡ bits op 0 8 → r ≡ table (λ l. number 8 (loaded s y_base k) (8 * l)) 0 8 → r ≡
+      terms_of op s
   unfolding terms_of y_lane
   y-terms hx hy k ek er =
       er ∙ (λ i. table (λ l. number 8 (loaded s y_base (ek i)) (8 * l)) 0 8) ∙ sym (λ i. table (λ l. term (hx i) (hy i) (x_lane op s l) (y_lane op s l)) 0 8)

@@ -35,7 +35,8 @@ module _ (op : ℕ) (s t : List ℕ) (size : length s ≡ 5120) (small : Bytes s
   pub vector-is : vector op ≡ true → t ≡ applied (less_row row ts on skip_z) s → t ≡ applied (Fms64.fms64 op) s
   vector-is v e = e ∙ (λ i. applied (less_row (er i) (et i) on (ez i)) s) ∙ vector-meant op s size small (sym ek ∙ left) on lanes v
 
-  pub matrix-is : vector op ≡ false → (y : ℕ) → y ≡ mask_of (y_enabled op) 64 → (yon : List Bool) → yon ≡ table (bit y) 0 8 → (skip_x : Bool) → skip_x ≡ skips_x op
+  pub matrix-is : vector op ≡ false → (y : ℕ) → y ≡ mask_of (y_enabled op) 64 → (yon : List Bool) → yon ≡ table (bit y) 0 8 → (skip_x : Bool) →
+      skip_x ≡ skips_x op
       → t ≡ applied (less_matrix (row % 8) ts skip_x on yon skip_z) s → t ≡ applied (Fms64.fms64 op) s
   matrix-is v y ey yon eyon skip_x esx e =
       e ∙ (λ i. applied (less_matrix (er i % 8) (et i) (esx i) on yon (ez i)) s)

@@ -120,7 +120,8 @@ vecint-adds gen op t xy row lane =
     let v : ℕ = Vecint.vector_of gen op row in
     let k : ℕ = Vecint.k_of op row lane in
     let adding : Vecint.adding_mode m ≡ true = and_left (Vecint.adding_mode m) (not (Vecint.forces_zero gen op)) t in
-    let kept : Vecint.forces_zero gen op ≡ false = not-true (Vecint.forces_zero gen op) (and_right (Vecint.adding_mode m) (not (Vecint.forces_zero gen op)) t) in
+    let kept : Vecint.forces_zero gen op ≡ false = not-true (Vecint.forces_zero gen op)
+    (and_right (Vecint.adding_mode m) (not (Vecint.forces_zero gen op)) t) in
     let four : eqb m 4 ≡ false = is_false (eqb m 4) (λ e. true_false (sym adding ∙ ap Vecint.adding_mode (eqb-true m 4 e))) in
     let d : AddsTo (Vecint.alu m (Vecint.shift op) (Vecint.x_of gen op xy v k) (Vecint.y_of gen op xy v k)) =
     alu-adds m (Vecint.shift op) (Vecint.x_of gen op xy v k) (Vecint.y_of gen op xy v k) adding

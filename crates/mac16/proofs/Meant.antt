@@ -46,20 +46,23 @@ module _ (op : ℕ) (s : List ℕ) where
   xy : List ℕ
   xy = take 1024 s
 
-  x-factor : (i : ℕ) → i < 32 → get_or (x_factors op s (x_mask op)) i (pos 0) ≡ cond (x_enabled op i) (cond (bit op 29) (other_than_x op) (Mac16.x_lane op xy i)) (pos 0)
+  x-factor : (i : ℕ) → i < 32 → get_or (x_factors op s (x_mask op)) i (pos 0) ≡ cond (x_enabled op i)
+      (cond (bit op 29) (other_than_x op) (Mac16.x_lane op xy i)) (pos 0)
   unfolding x_side masked side Mac16.x_lane xy
   x-factor i h =
       at (pos 0) _ 32 i h
       ∙ ap₂ (λ (on : Bool) (x : ℤ). cond on x (pos 0)) (at false (x_enabled op) 32 i h) (at (pos 0) _ 32 i h)
       ∙ ap (λ (x : ℤ). cond (x_enabled op i) (cond (bit op 29) (other_than_x op) x) (pos 0))
-      (lane-same (bit op 61) (byte_at (loaded_bytes s x_base (bits op 10 18))) (loaded (take 1024 s) x_base (bits op 10 18)) i h (λ p l. loaded-same s x_base (bits op 10 18) p (omega arith) l))
+      (lane-same (bit op 61) (byte_at (loaded_bytes s x_base (bits op 10 18))) (loaded (take 1024 s) x_base (bits op 10 18)) i h
+      (λ p l. loaded-same s x_base (bits op 10 18) p (omega arith) l))
 
   y-factor : (j : ℕ) → j < 32 → get_or (y_factors op s) j (pos 0) ≡ cond (bit op 28) (pos 1) (Mac16.y_lane op xy j)
   unfolding y_factors side Mac16.y_lane xy
   y-factor j h =
       at (pos 0) _ 32 j h
       ∙ ap (λ (y : ℤ). cond (bit op 28) (pos 1) y)
-      (lane-same (bit op 60) (byte_at (loaded_bytes s y_base (bits op 0 8))) (loaded (take 1024 s) y_base (bits op 0 8)) j h (λ p l. loaded-same s y_base (bits op 0 8) p (omega arith) l))
+      (lane-same (bit op 60) (byte_at (loaded_bytes s y_base (bits op 0 8))) (loaded (take 1024 s) y_base (bits op 0 8)) j h
+      (λ p l. loaded-same s y_base (bits op 0 8) p (omega arith) l))
 
 -- ---- the product is the value
 

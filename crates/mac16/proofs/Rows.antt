@@ -37,7 +37,8 @@ term-at b m s xs ys l h =
 module _ (form : Form) (z_row : ℕ) (xs : List ℤ) (on : List Bool) (ys : List ℤ) (yon : List Bool) (s : ℕ) (keep : Bool) (s₀ : List ℕ) where
   -- a row of the run that the form writes, with the terms and the mask of the run
   run-here : (row c r l : ℕ) (terms : List ℕ) (mask : List Bool) → row ≤ r → r < row + c → row_on form z_row yon r ≡ true
-      → get_or terms (place_in (lanes_of (z_width form)) row r l) 0 ≡ term (z_width form) s (get_or xs (i_of form r l) (pos 0)) (get_or ys (j_of form r l) (pos 0))
+      → get_or terms (place_in (lanes_of (z_width form)) row r l) 0 ≡ term (z_width form) s (get_or xs (i_of form r l) (pos 0))
+      (get_or ys (j_of form r l) (pos 0))
       → get_or mask (place_in (lanes_of (z_width form)) row r l) false ≡ get_or on (i_of form r l) false
       → lane_after (run_sum (z_width form) row c terms mask keep) s₀ r l ≡ lane_after (products form z_row xs on ys yon s keep) s₀ r l
   unfolding new_lane
@@ -69,13 +70,15 @@ vector_row z_row xs on ys yon s keep s₀ size small = same-lanes 2 _ _ _ _ keep
         beyond : z_row ≤ row → z_row + 1 ≤ row
         beyond h = ⊎_elim (λ same. absurd (f (omega arith))) (λ past. past) (lt_or_le row (z_row + 1))
 
-    this : (row l : ℕ) → l < 32 → row ≡ z_row → lane_after (run_sum 2 z_row 1 terms on keep) s₀ row l ≡ lane_after (products vector z_row xs on ys yon s keep) s₀ row l
+    this : (row l : ℕ) → l < 32 → row ≡ z_row → lane_after (run_sum 2 z_row 1 terms on keep) s₀ row l ≡ lane_after
+        (products vector z_row xs on ys yon s keep) s₀ row l
     this row l hl e =
         let at : place_in 32 z_row row l ≡ l = ap (λ (r : ℕ). place_in 32 z_row r l) e ∙ alone 32 z_row l in
         run-here vector z_row xs on ys yon s keep s₀ z_row 1 row l terms on (omega arith) (omega arith) (eq-eqb row z_row e)
         (ap (λ (k : ℕ). get_or terms k 0) at ∙ term-at 2 32 s xs ys l hl) (ap (λ (k : ℕ). get_or on k false) at)
 
-    lane : (row l : ℕ) → row < 64 → l < 32 → lane_after (run_sum 2 z_row 1 terms on keep) s₀ row l ≡ lane_after (products vector z_row xs on ys yon s keep) s₀ row l
+    lane : (row l : ℕ) → row < 64 → l < 32 → lane_after (run_sum 2 z_row 1 terms on keep) s₀ row l ≡ lane_after
+        (products vector z_row xs on ys yon s keep) s₀ row l
     lane row l hr hl =
         two (eqb row z_row) (lane_after (run_sum 2 z_row 1 terms on keep) s₀ row l ≡ lane_after (products vector z_row xs on ys yon s keep) s₀ row l)
         (λ t. this row l hl (eqb-true row z_row t))
@@ -111,14 +114,16 @@ module _ (p : ℕ) (hp : p < 2) (xs : List ℤ) (on : List Bool) (ys : List ℤ)
       off false = refl
 
   pub matrix16-turn : (j : ℕ) (t u : List ℕ) → j < 32 → Done16 (2 * j) t
-      → u ≡ cond (get_or yon j false) (applied (run_sum 2 (2 * j + p) 1 (row_terms 2 32 s xs (replicate 32 (get_or ys j (pos 0)))) on keep) t) t → Done16 (2 * (j + 1)) u
+      → u ≡ cond (get_or yon j false) (applied (run_sum 2 (2 * j + p) 1 (row_terms 2 32 s xs (replicate 32 (get_or ys j (pos 0)))) on keep) t) t →
+      Done16 (2 * (j + 1)) u
   unfolding new_lane
   matrix16-turn j t u hj done eu =
       two (get_or yon j false) (Done16 (2 * (j + 1)) u)
       (λ y.
       rows_more E 32 refl s₀ _ _ keep (2 * j + p) 1 (2 * j) (2 * (j + 1)) t u (omega arith) (omega arith) (in-run 2 (2 * j + p) 1 terms on keep)
       (λ r l h h' hl. here y r l (omega arith) hl)
-      (λ r l h h' f. row-off matrix16 p xs on ys yon s keep s₀ r l (other-parity j r h h' (λ e. true_false (sym (among-yes (2 * j + p) 1 r (omega arith) (omega arith)) ∙ f))))
+      (λ r l h h' f. row-off matrix16 p xs on ys yon s keep s₀ r l (other-parity j r h h'
+      (λ e. true_false (sym (among-yes (2 * j + p) 1 r (omega arith) (omega arith)) ∙ f))))
       done (eu ∙ pick_true _ _ y))
       (λ y.
       subst (Done16 (2 * (j + 1))) (sym (eu ∙ pick_false _ _ y))
@@ -149,7 +154,8 @@ module _ (z_row : ℕ) (xs : List ℤ) (on : List Bool) (ys : List ℤ) (yon : L
   Done32 n t = Holds 4 16 refl s₀ t (Below (products matrix32 z_row xs on ys yon s keep) 16 refl s₀ n)
 
   pub matrix32-turn : (j : ℕ) (lanes : List ℤ) (mask : List Bool) (t u : List ℕ) → j < 32 → lanes ≡ split (pos 0) xs → mask ≡ split false on → Done32 (j * 2) t
-      → u ≡ cond (get_or yon j false) (applied (run_sum 4 (j * 2) 2 (row_terms 4 32 s lanes (replicate 32 (get_or ys j (pos 0)))) mask keep) t) t → Done32 ((j + 1) * 2) u
+      → u ≡ cond (get_or yon j false) (applied (run_sum 4 (j * 2) 2 (row_terms 4 32 s lanes (replicate 32 (get_or ys j (pos 0)))) mask keep) t) t →
+      Done32 ((j + 1) * 2) u
   unfolding row_on new_lane
   matrix32-turn j lanes mask t u hj el em done eu =
       two (get_or yon j false) (Done32 ((j + 1) * 2) u)
@@ -161,7 +167,8 @@ module _ (z_row : ℕ) (xs : List ℤ) (on : List Bool) (ys : List ℤ) (yon : L
       done (eu ∙ pick_true _ _ y))
       (λ y.
       subst (Done32 ((j + 1) * 2)) (sym (eu ∙ pick_false _ _ y))
-      (rows-skip E 16 refl s₀ (j * 2) ((j + 1) * 2) t (omega arith) (λ r l h h'. row-off matrix32 z_row xs on ys yon s keep s₀ r l (by-y r h (omega arith) ∙ y)) done))
+      (rows-skip E 16 refl s₀ (j * 2) ((j + 1) * 2) t (omega arith) (λ r l h h'. row-off matrix32 z_row xs on ys yon s keep s₀ r l
+      (by-y r h (omega arith) ∙ y)) done))
     where
       E : Effect
       E = products matrix32 z_row xs on ys yon s keep
@@ -173,12 +180,15 @@ module _ (z_row : ℕ) (xs : List ℤ) (on : List Bool) (ys : List ℤ) (yon : L
       by-y r h h' = ap (λ (i : ℕ). get_or yon i false) (omega arith)
 
       -- an element of a split list, by the lane of its row
-      of-split : {A : Type 0} (d : A) (l' l'' : List A) → l' ≡ split d l'' → (r l : ℕ) → j * 2 ≤ r → r < j * 2 + 2 → l < 16 → get_or l' (place_in 16 (j * 2) r l) d ≡ get_or l'' (2 * l + r % 2) d
+      of-split : {A : Type 0} (d : A) (l' l'' : List A) → l' ≡ split d l'' → (r l : ℕ) → j * 2 ≤ r → r < j * 2 + 2 → l < 16 → get_or l'
+          (place_in 16 (j * 2) r l) d ≡ get_or l'' (2 * l + r % 2) d
       of-split d l' l'' e r l h h' hl =
           let place : 2 * (place_in 16 (j * 2) r l % 16) + place_in 16 (j * 2) r l / 16 ≡ 2 * l + r % 2 = omega arith in
-          ap (λ (x : List _). get_or x (place_in 16 (j * 2) r l) d) e ∙ split_at d l'' (place_in 16 (j * 2) r l) (omega arith) ∙ ap (λ (i : ℕ). get_or l'' i d) place
+          ap (λ (x : List _). get_or x (place_in 16 (j * 2) r l) d) e ∙ split_at d l'' (place_in 16 (j * 2) r l) (omega arith)
+          ∙ ap (λ (i : ℕ). get_or l'' i d) place
 
-      term-here : (r l : ℕ) → j * 2 ≤ r → r < j * 2 + 2 → l < 16 → get_or terms (place_in 16 (j * 2) r l) 0 ≡ term 4 s (get_or xs (2 * l + r % 2) (pos 0)) (get_or ys (r / 2) (pos 0))
+      term-here : (r l : ℕ) → j * 2 ≤ r → r < j * 2 + 2 → l < 16 → get_or terms (place_in 16 (j * 2) r l) 0 ≡ term 4 s
+          (get_or xs (2 * l + r % 2) (pos 0)) (get_or ys (r / 2) (pos 0))
       term-here r l h h' hl =
           let lane : j ≡ r / 2 = omega arith in
           term-at 4 32 s lanes (replicate 32 (get_or ys j (pos 0))) (place_in 16 (j * 2) r l) (omega arith)

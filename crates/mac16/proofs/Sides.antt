@@ -52,7 +52,8 @@ split_at d xs k h =
 pub split-masked : (on : List Bool) (xs : List ℤ) → masked (split false on) (split (pos 0) xs) ≡ split (pos 0) (masked on xs)
 unfolding masked split
 split-masked on xs =
-    table_same (λ k. cond (get_or (split false on) k false) (get_or (split (pos 0) xs) k (pos 0)) (pos 0)) (λ k. get_or (masked on xs) (2 * (k % 16) + k / 16) (pos 0)) 32
+    table_same (λ k. cond (get_or (split false on) k false) (get_or (split (pos 0) xs) k (pos 0)) (pos 0))
+    (λ k. get_or (masked on xs) (2 * (k % 16) + k / 16) (pos 0)) 32
     (λ k h.
     (λ t. cond (split_at false on k h t) (split_at (pos 0) xs k h t) (pos 0)) ∙ sym (masked-at on xs (2 * (k % 16) + k / 16) (omega arith)))
 

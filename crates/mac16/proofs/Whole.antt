@@ -34,7 +34,8 @@ row-modulo p z e =
     λ t yon row. eqb (row % 2) (same t) && get_or yon (row / 2) false
 
 module _ (op : ℕ) (s t : List ℕ) (on : List Bool) (xs ys : List ℤ) (sh : ℕ) (keep : Bool)
-    (eo : on ≡ x_mask op) (ex : xs ≡ x_factors op s on) (ey : ys ≡ y_factors op s) (es : sh ≡ bits op 55 59) (small : sh < 32) (ek : keep ≡ not (bit op 27)) where
+    (eo : on ≡ x_mask op) (ex : xs ≡ x_factors op s on) (ey : ys ≡ y_factors op s) (es : sh ≡ bits op 55 59) (small : sh < 32)
+    (ek : keep ≡ not (bit op 27)) where
   shift : sh % 32 ≡ bits op 55 59
   shift = mod-eq_of_lt small ∙ es
 

@@ -46,7 +46,8 @@ products form z_row xs on_x ys on_y s keep = record {
   width = z_width form;
   on = λ row l. row_on form z_row on_y row && (keep || get_or on_x (i_of form row l) false);
   new = λ xy row l z.
-      lane_sum (z_width form) z (term (z_width form) s (get_or xs (i_of form row l) (pos 0)) (get_or ys (j_of form row l) (pos 0))) (get_or on_x (i_of form row l) false) keep;
+      lane_sum (z_width form) z (term (z_width form) s (get_or xs (i_of form row l) (pos 0)) (get_or ys (j_of form row l) (pos 0)))
+      (get_or on_x (i_of form row l) false) keep;
   adds = keep;
 }
 

@@ -127,7 +127,9 @@ module _ (how : Reduce) (old v : ℤ) (ev : v ≡ shifted_by how old) where
   unfolding value_of
   value-clamped t = by how.below ∙ sym (pick_true _ _ t)
     where
-      by : (s : Bool) → clamp (low_end s how.width) (high_end s how.width) v ≡ cond s (clamp (low_end true how.width) (high_end true how.width) (shifted_by how old)) (clamp (low_end false how.width) (high_end false how.width) (shifted_by how old))
+      by : (s : Bool) → clamp (low_end s how.width) (high_end s how.width) v ≡ cond s
+          (clamp (low_end true how.width) (high_end true how.width) (shifted_by how old))
+          (clamp (low_end false how.width) (high_end false how.width) (shifted_by how old))
       by true = ap (clamp (low_end true how.width) (high_end true how.width)) ev
       by false = ap (clamp (low_end false how.width) (high_end false how.width)) ev
 
@@ -141,7 +143,8 @@ pub cleared-is : (how : Reduce) (b z : ℕ) → how.clears ≡ true → 0 ≡ re
 unfolding reduce_to
 cleared-is how b z e = sym (ap (wrap (span b)) (pick_true _ _ e) ∙ zero-mod (span b))
 
-pub reduced-is : (how : Reduce) (b z : ℕ) (old v : ℤ) → how.clears ≡ false → old ≡ read how.sign b z → v ≡ value_of how old → wrap (span b) v ≡ reduce_to b how z
+pub reduced-is : (how : Reduce) (b z : ℕ) (old v : ℤ) → how.clears ≡ false → old ≡ read how.sign b z → v ≡ value_of how old → wrap (span b) v ≡
+    reduce_to b how z
 unfolding reduce_to
 reduced-is how b z old v e eo ev = ap (wrap (span b)) (ev ∙ ap (value_of how) eo ∙ sym (pick_false _ _ e))
 

@@ -139,4 +139,5 @@ read-lanes n how bytes bits sign e s k l h = values_at sign bits k h ∙ ap (λ 
 
 -- a number of 32 bits that is shifted in an i64
 pub shifted_up : (n s : ℕ) (r : ℤ) → n < 2 ^ 32 → r ≡ pos n ≫ s → T (non_neg r) × (nat_abs r < 2 ^ 32) × (nat_abs r ≡ n / 2 ^ s)
-shifted_up n s r h e = subst (λ (z : ℤ). T (non_neg z) × (nat_abs z < 2 ^ 32) × (nat_abs z ≡ n / 2 ^ s)) (sym e) (tt, omega (arith, div-le_self n (2 ^ s)), refl)
+shifted_up n s r h e = subst (λ (z : ℤ). T (non_neg z) × (nat_abs z < 2 ^ 32) × (nat_abs z ≡ n / 2 ^ s)) (sym e)
+    (tt, omega (arith, div-le_self n (2 ^ s)), refl)

@@ -1,6 +1,7 @@
 -- A row of Z as the list of its lanes' numbers: read, stored, and made anew from what was read. m lanes of b bytes fill it.
 -- Assumes nothing.
-use Rattle.std.proofs.Common.{◌≡◌, ℕ, ◌+◌, ◌*◌, ◌%◌, ◌<◌, ◌≤◌, Bool, false, cond, ◌&&◌, eqb, List, length, get_or, sym, ap, ◌∙◌, mod-eq_of_lt, mul_comm, zero-add, arith, eq-eqb}
+use Rattle.std.proofs.Common.{◌≡◌, ℕ, ◌+◌, ◌*◌, ◌%◌, ◌<◌, ◌≤◌, Bool, false, cond, ◌&&◌, eqb, List, length, get_or, sym, ap, ◌∙◌, mod-eq_of_lt}
+use Rattle.std.proofs.Common.{mul_comm, zero-add, arith, eq-eqb}
 use lib.Arith.{digits_lt}
 use lib.Seq.{sets}
 use Rattle.number.specs.Bytes.{span, byte_at, number, bytes_of, table}

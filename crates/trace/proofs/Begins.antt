@@ -12,7 +12,8 @@ use Rattle.number.proofs.Tests.{two, pick_false}
 use Rattle.number.proofs.Bytes.{number_same, table_same}
 use Rattle.isa.specs.State.{register_bytes}
 use Rattle.file.specs.declared.Opened.TheVariants.{Steps}
-use Rattle.file.specs.File.{bytes_from, section_count, has_checkpoint, checkpoint_length, contents_length, steps_base, step_bytes, most_steps, step_count, steps_end}
+use Rattle.file.specs.File.{bytes_from, section_count, has_checkpoint, checkpoint_length, contents_length, steps_base, step_bytes, most_steps}
+use Rattle.file.specs.File.{step_count, steps_end}
 use Rattle.file.specs.File.{registers_in, entry_is, sections_right, table_right, head_as}
 use Rattle.file.proofs.Contents.{length-least, length_three}
 use Rattle.file.proofs.Heads.{head-steps, head-table, head-base, head-count}

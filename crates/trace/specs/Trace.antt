@@ -9,7 +9,8 @@ use Rattle.isa.specs.Swap.{swaps, Allowed}
 use Rattle.file.specs.declared.Opened.{Opened}
 use Rattle.file.specs.declared.Opened.TheVariants.{Steps, Refused}
 use Rattle.file.specs.declared.FileRefusal.TheVariants.{Contents}
-use Rattle.file.specs.File.{file_refusal_number, all, has_checkpoint, steps_base, step_count, step_at, registers_in, start_of, steps_in, consumed_in, resumed_from}
+use Rattle.file.specs.File.{file_refusal_number, all, has_checkpoint, steps_base, step_count, step_at, registers_in, start_of, steps_in, consumed_in}
+use Rattle.file.specs.File.{resumed_from}
 use Rattle.file.specs.File.{head_as, opened_as, sound_in, fault_at, calls}
 use Rattle.text.specs.Lines.{z_line, steps_line, refused_line}
 use Rattle.steps.specs.Steps.{step_lines}

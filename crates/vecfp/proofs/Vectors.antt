@@ -82,7 +82,8 @@ module _ (f : Format) (gen op v : ℕ) (s : List ℕ) (ef : Vecfp.format_of op �
     vector-meant {z = z} {out = out} made {row} er ez et =
         et
         ∙ pick_true _ _ (eq-eqb (length s) 5120 size)
-        ∙ row_same (width f) (lanes_in f) (fits f) row s size small (λ l. get_or on l false) (Vecfp.enabled gen op) (λ l z. get_or out l 0) (λ l z. get_or out l 0)
+        ∙ row_same (width f) (lanes_in f) (fits f) row s size small (λ l. get_or on l false) (Vecfp.enabled gen op) (λ l z. get_or out l 0)
+        (λ l z. get_or out l 0)
         enabled (λ l h. refl)
         ∙ row_made (width f) (lanes_in f) (fits f) row s size small (Vecfp.enabled gen op) (Vecfp.result gen op xy v) z out inside ez (results-meant made)
         ∙ (λ i. applied (one_row (width (sym ef i)) (place i) (Vecfp.enabled gen op) (Vecfp.result gen op xy v)) s)

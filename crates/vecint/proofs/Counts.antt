@@ -1,6 +1,7 @@
 -- The enabled lanes and their bytes, counted by the mask.
 -- Assumes nothing.
-use Rattle.std.proofs.Common.{◌≡◌, ℕ, ◌+◌, ◌-◌, ◌*◌, ◌/◌, ◌%◌, ◌^◌, ◌<◌, Bool, cond, ◌&&◌, ◌||◌, eqb, ltb, sym, ap, ◌∙◌, subst, ap₂, ⊎_elim, mod-lt, mul_assoc, mul_comm, div-lt_iff_lt-mul, add-mul, mul-div_cancel, arith, le-ltb, lt-ltb}
+use Rattle.std.proofs.Common.{◌≡◌, ℕ, ◌+◌, ◌-◌, ◌*◌, ◌/◌, ◌%◌, ◌^◌, ◌<◌, Bool, cond, ◌&&◌, ◌||◌, eqb, ltb, sym, ap, ◌∙◌, subst, ap₂, ⊎_elim, mod-lt}
+use Rattle.std.proofs.Common.{mul_assoc, mul_comm, div-lt_iff_lt-mul, add-mul, mul-div_cancel, arith, le-ltb, lt-ltb}
 use lib.Arith.{digits_lt, digits_div, digits_mod}
 use Rattle.number.proofs.Tests.{pick_true, pick_false, lt_or_le}
 use Rattle.isa.specs.Operand.{bit}

@@ -15,7 +15,8 @@ use Rattle.vecint.specs.Accumulation.{z_bytes, summed, accumulated}
 wrap-kept : (wide : Bool) (t : ℤ) → wrap (span (z_bytes wide)) (kept 4 t) ≡ wrap (span (z_bytes wide)) t
 wrap-kept true t = wrap-signed 4 (wrap (span 4) t) ∙ mod-eq_of_lt (wrap-lt (span 4) (pow_pos 32) t)
 wrap-kept false t =
-    sym (wrap-low 16 16 (kept 4 t)) ∙ ap (λ (n : ℕ). n % 65536) (wrap-signed 4 (wrap (span 4) t) ∙ mod-eq_of_lt (wrap-lt (span 4) (pow_pos 32) t)) ∙ wrap-low 16 16 t
+    sym (wrap-low 16 16 (kept 4 t)) ∙ ap (λ (n : ℕ). n % 65536) (wrap-signed 4 (wrap (span 4) t) ∙ mod-eq_of_lt (wrap-lt (span 4) (pow_pos 32) t))
+    ∙ wrap-low 16 16 t
 
 -- a sum, and a difference, by what is kept of the term
 module _ (m : ℕ) (p : 0 < m) (z t u : ℤ) (e : wrap m t ≡ wrap m u) where
@@ -44,4 +45,5 @@ kept-is false how z t whole =
     two how.clamps (wrap (span 2) (accumulated false how z (kept 4 t)) ≡ wrap (span 2) (accumulated false how z t))
     (λ c. ap (λ (u : ℤ). wrap (span 2) (accumulated false how z u)) (whole c))
     (λ c.
-    ap (wrap (span 2)) (pick_false _ _ c) ∙ summed_kept (span 2) (pow_pos 16) how z (kept 4 t) t (wrap-kept false t) ∙ sym (ap (wrap (span 2)) (pick_false _ _ c)))
+    ap (wrap (span 2)) (pick_false _ _ c) ∙ summed_kept (span 2) (pow_pos 16) how z (kept 4 t) t (wrap-kept false t)
+    ∙ sym (ap (wrap (span 2)) (pick_false _ _ c)))

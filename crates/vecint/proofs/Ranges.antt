@@ -1,6 +1,7 @@
 -- Lanes of X and Y and their terms are far from the ends of an i64, so that the saturating modes keep all of a sum.
 -- Assumes nothing.
-use Rattle.std.proofs.Common.{◌≡◌, ℕ, zero, suc, ◌+◌, ◌/◌, ◌^◌, ◌<◌, Bool, true, false, cond, ◌⊎◌, List, [], ◌∷◌, take, ℤ, pos, negsuc, ◌+ℤ◌, ◌*ℤ◌, neg_ℤ, sym, refl, ap, ◌∙◌, subst, inl, inr, arith}
+use Rattle.std.proofs.Common.{◌≡◌, ℕ, zero, suc, ◌+◌, ◌/◌, ◌^◌, ◌<◌, Bool, true, false, cond, ◌⊎◌, List, [], ◌∷◌, take, ℤ, pos, negsuc, ◌+ℤ◌, ◌*ℤ◌}
+use Rattle.std.proofs.Common.{neg_ℤ, sym, refl, ap, ◌∙◌, subst, inl, inr, arith}
 use lib.Signed.{mag, shr_z, mag_shr}
 use Rattle.number.specs.Bytes.{span}
 use Rattle.number.specs.Integers.{read, kept, clamp_signed}

@@ -1,6 +1,7 @@
 -- What the code does with a row in mode 4 is what is meant by the vector.
 -- Assumes nothing.
-use Rattle.std.proofs.Common.{◌≡◌, ℕ, ◌*◌, ◌%◌, ◌<◌, Bool, true, false, cond, ◌||◌, eqb, List, length, get_or, take, ℤ, pos, ◌+ℤ◌, sym, refl, ap, ◌∙◌, mod-eq_of_lt, zero-add, arith, eq-eqb}
+use Rattle.std.proofs.Common.{◌≡◌, ℕ, ◌*◌, ◌%◌, ◌<◌, Bool, true, false, cond, ◌||◌, eqb, List, length, get_or, take, ℤ, pos, ◌+ℤ◌, sym, refl, ap, ◌∙◌}
+use Rattle.std.proofs.Common.{mod-eq_of_lt, zero-add, arith, eq-eqb}
 use Rattle.number.specs.Bytes.{span}
 use Rattle.number.specs.Integers.{wrap, read, ◌≫◌, half_unit, clamp_signed, clamp_unsigned}
 use Rattle.number.proofs.Bytes.{get_d-table}
@@ -50,7 +51,8 @@ lane-reduced gen op xy v k z is =
     moved s = (read (bit op 63) (Vecint.z_width op) z +ℤ cond (bit op 29) (half_unit s) (pos 0)) ≫ s
 
 module _ (gen op v : ℕ) (s : List ℕ) (size : length s ≡ 5120) (small : Bytes s) (is : Vecint.reduces op ≡ true) where
-  pub reduce-meant : (t : List ℕ) (row b : ℕ) (on : List Bool) (how : Reduce) → row ≡ first_row gen op v → b ≡ Vecint.z_width op → on ≡ vecint_mask gen op → how ≡ reduce_by gen op
+  pub reduce-meant : (t : List ℕ) (row b : ℕ) (on : List Bool) (how : Reduce) → row ≡ first_row gen op v → b ≡ Vecint.z_width op → on ≡ vecint_mask
+      gen op → how ≡ reduce_by gen op
       → t ≡ cond (eqb (length s) 5120) (applied (one_row (width_in b) row (λ l. get_or on l false) (λ l. reduce_to (width_in b) how)) s) s
       → t ≡ applied (vector_effect gen op v s) s
   reduce-meant t row b on how er eb eo eh et =

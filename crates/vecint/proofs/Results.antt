@@ -55,7 +55,8 @@ module _ (s : ℕ) (x y z : ℤ) where
   unfolding alu outcome summed term_of sums_in y_alone negates_in
   row-11 = ap (λ (t : ℤ). z +ℤ t) (ap (λ (u : ℤ). u ≫ s) (sym (+ℤ_idr x)) ∙ plain (x +ℤ pos 0))
 
-  others : (m : ℕ) → eqb m 0 ≡ false → eqb m 1 ≡ false → eqb m 2 ≡ false → eqb m 3 ≡ false → eqb m 5 ≡ false → eqb m 6 ≡ false → eqb m 10 ≡ false → eqb m 11 ≡ false → By m
+  others : (m : ℕ) → eqb m 0 ≡ false → eqb m 1 ≡ false → eqb m 2 ≡ false → eqb m 3 ≡ false → eqb m 5 ≡ false → eqb m 6 ≡ false → eqb m 10 ≡ false →
+      eqb m 11 ≡ false → By m
   unfolding alu outcome summed term_of sums_in y_alone negates_in
   others m e0 e1 e2 e3 e5 e6 e10 e11 =
       rw (e0, e1, e2, e3, e5, e6, e10, e11) (ap (λ (t : ℤ). z +ℤ t) (ap (λ (u : ℤ). u ≫ s) (sym (+ℤ_idl y)) ∙ plain (pos 0 +ℤ y)))

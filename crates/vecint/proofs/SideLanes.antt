@@ -1,6 +1,7 @@
 -- The lanes of X and Y that a vector uses, as the code reads them.
 -- Assumes nothing.
-use Rattle.std.proofs.Common.{◌≡◌, ℕ, zero, suc, ◌+◌, ◌*◌, ◌/◌, ◌%◌, ◌<◌, ◌≤◌, Bool, true, false, cond, ◌&&◌, ◌||◌, eqb, ◌⊎◌, List, get_or, take, ℤ, pos, sym, refl, ap, ◌∙◌, subst, inl, inr, mod-eq_of_lt, zero-add, arith, pow_pos}
+use Rattle.std.proofs.Common.{◌≡◌, ℕ, zero, suc, ◌+◌, ◌*◌, ◌/◌, ◌%◌, ◌<◌, ◌≤◌, Bool, true, false, cond, ◌&&◌, ◌||◌, eqb, ◌⊎◌, List, get_or, take, ℤ}
+use Rattle.std.proofs.Common.{pos, sym, refl, ap, ◌∙◌, subst, inl, inr, mod-eq_of_lt, zero-add, arith, pow_pos}
 use mathlib.Core.Bool as B
 use native.Mathlib.Nat.{zero-mod}
 use Rattle.number.specs.Bytes.{byte_at, number, table}
@@ -144,7 +145,8 @@ module _ (gen op : ℕ) (s : List ℕ) (v : ℕ) (skip : Bool) (not : Vecint.red
       used : lane-used (fixed_y gen op) (lane_y gen op) b n k ≡ Vecint.y_index gen op k
       used =
           unfold Vecint.y_index Vecint.broadcasts in
-          by-several (Vecint.several gen op) (eqb (Vecint.broadcast_mode op) 7) (eqb (Vecint.enable_mode op) 1) (Vecint.enable_value op) (lanes_of b) (k / (b / n))
+          by-several (Vecint.several gen op) (eqb (Vecint.broadcast_mode op) 7) (eqb (Vecint.enable_mode op) 1) (Vecint.enable_value op) (lanes_of b)
+          (k / (b / n))
 
 -- the terms, from the parts that the code has read
 pub terms_held : (gen op : ℕ) (s : List ℕ) (v : ℕ) (how : Alu) (ts : List ℤ) (xb yb : List ℕ) (x y : SideForm) (n sh : ℕ) → Vecint.reduces op ≡ false → v < 4

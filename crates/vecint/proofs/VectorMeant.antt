@@ -1,6 +1,7 @@
 -- What the code does with the terms of a vector is what is meant by the vector.
 -- Assumes nothing.
-use Rattle.std.proofs.Common.{◌≡◌, ℕ, ◌+◌, ◌*◌, ◌/◌, ◌%◌, ◌^◌, ◌<◌, ◌≤◌, Bool, true, false, cond, ◌||◌, eqb, ◌⊎◌, List, length, get_or, take, ℤ, sym, refl, ap, ◌∙◌, subst, inl, inr, mul_comm, zero-add, arith}
+use Rattle.std.proofs.Common.{◌≡◌, ℕ, ◌+◌, ◌*◌, ◌/◌, ◌%◌, ◌^◌, ◌<◌, ◌≤◌, Bool, true, false, cond, ◌||◌, eqb, ◌⊎◌, List, length, get_or, take, ℤ, sym}
+use Rattle.std.proofs.Common.{refl, ap, ◌∙◌, subst, inl, inr, mul_comm, zero-add, arith}
 use lib.Signed.{mag}
 use Rattle.number.specs.Bytes.{span, table}
 use Rattle.number.specs.Integers.{signed, wrap}
@@ -74,8 +75,10 @@ module _ (gen op v : ℕ) (s : List ℕ) (size : length s ≡ 5120) (small : Byt
       ∙ ap (λ (m : ℕ). Vecint.rows_each op * m) (row-lanes (eqb (Vecint.z_width op) 4) ∙ ap lanes_of width)
 
   -- what lane k receives
-  lane-meant : (ts : List ℤ) → HoldsTerms gen op s v (alu_by gen op) ts → (k : ℕ) → k < vector_lanes op → (z : ℕ) → z < span (z_bytes (eqb (Vecint.z_width op) 4))
-      → accumulate (eqb (Vecint.z_width op) 4) (alu_by gen op) ts k z ≡ wrap (span (z_bytes (eqb (Vecint.z_width op) 4))) (Vecint.result gen op (take 1024 s) v k z)
+  lane-meant : (ts : List ℤ) → HoldsTerms gen op s v (alu_by gen op) ts → (k : ℕ) → k < vector_lanes op → (z : ℕ) → z < span
+      (z_bytes (eqb (Vecint.z_width op) 4))
+      → accumulate (eqb (Vecint.z_width op) 4) (alu_by gen op) ts k z ≡ wrap (span (z_bytes (eqb (Vecint.z_width op) 4)))
+      (Vecint.result gen op (take 1024 s) v k z)
   lane-meant ts held k hk z hz =
       ap (λ (t : ℤ). wrap (span b) (accumulated w how Z t)) (held k hk)
       ∙ kept-is w how Z T (λ c. term-whole how (Vecint.shift op) (x k) (y k) (fifteen gen op c) hx hy)

@@ -19,7 +19,8 @@ returns-then-mode-eq5 c =
 pub returns-then-mode-eq7 : goal.returns-then-mode-eq7
 returns-then-mode-eq7 c =
     let m = c.args.mode in
-    float-reserved m (lt-leb m 1 c.if-mode-le1.false) (ne_eqb m 4 c.if-mode-eq4.false) (ne_eqb m 5 c.if-mode-eq5.false) (eq-eqb m 7 c.if-mode-eq7.true) refl refl
+    float-reserved m (lt-leb m 1 c.if-mode-le1.false) (ne_eqb m 4 c.if-mode-eq4.false) (ne_eqb m 5 c.if-mode-eq5.false)
+    (eq-eqb m 7 c.if-mode-eq7.true) refl refl
 
 pub returns-then-mode-lt10 : goal.returns-then-mode-lt10
 returns-then-mode-lt10 c =

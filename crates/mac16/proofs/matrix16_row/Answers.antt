@@ -17,7 +17,9 @@ returns-then-not-yon-j c = sym (pick_false _ _ c.if-not-yon-j.true)
 
 pub returns : goal.returns
 returns c =
+    let a = c.args in
     c.row16.ensures
-    ∙ pick_true _ _ (eq-eqb (length c.args.state.now) 5120 c.requires.0)
-    ∙ ap (λ (y : ℤ). applied (run_sum 2 (2 * c.args.j + c.args.p) 1 (row_terms 2 32 (c.args.s % 32) c.args.xs.now (replicate 32 y)) c.args.on.now c.args.keep) c.args.state.now) (to_z-of_z {w = w16} (sfits_of c.y-1.given))
+    ∙ pick_true _ _ (eq-eqb (length a.state.now) 5120 c.requires.0)
+    ∙ ap (λ (y : ℤ). applied (run_sum 2 (2 * a.j + a.p) 1 (row_terms 2 32 (a.s % 32) a.xs.now (replicate 32 y)) a.on.now a.keep) a.state.now)
+    (to_z-of_z {w = w16} (sfits_of c.y-1.given))
     ∙ sym (pick_true _ _ c.if-not-yon-j.false)

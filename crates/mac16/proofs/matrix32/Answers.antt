@@ -9,18 +9,30 @@ use mathlib.Core.Path.{refl, sym, ap₂, ◌∙◌}
 use Rattle.mac16.proofs.matrix32.Goals as goal
 
 pub loop-j-init : goal.loop-j-init
-loop-j-init c = (omega arith, rows_start (products Mac16.matrix32 0 (masked c.args.on.now c.args.xs.now) c.args.on.now c.args.ys.now c.args.yon.now (c.args.s % 32) c.args.keep) 16 refl c.args.state.now c.requires, λ p. (c.slice_known-1.given p).fits)
+loop-j-init c =
+    let a = c.args in (
+      omega arith,
+      rows_start (products Mac16.matrix32 0 (masked a.on.now a.xs.now) a.on.now a.ys.now a.yon.now (a.s % 32) a.keep) 16 refl a.state.now
+          c.requires,
+      λ p. (c.slice_known-1.given p).fits,
+    )
 
 pub loop-j-preserved : goal.loop-j-preserved
-loop-j-preserved c = (
-  omega arith,
-  matrix32-turn 0 (masked c.args.on.now c.args.xs.now) c.args.on.now c.args.ys.now c.args.yon.now (c.args.s % 32) c.args.keep c.args.state.now c.loop-j.j (masked c.split_mask-mask.result c.split_lanes-lanes.result) c.split_mask-mask.result c.loop-j.state c.matrix32_pair.new.state (omega arith) (ap₂ masked c.split_mask-mask.ensures c.split_lanes-lanes.ensures ∙ split-masked c.args.on.now c.args.xs.now) c.split_mask-mask.ensures
-      c.loop-j.invariant.1 c.matrix32_pair.ensures,
-  λ p. (c.slice_known-in-loop-j-1.given p).fits,
-)
+loop-j-preserved c =
+    let a = c.args in (
+      omega arith,
+      matrix32-turn 0 (masked a.on.now a.xs.now) a.on.now a.ys.now a.yon.now (a.s % 32) a.keep a.state.now c.loop-j.j
+          (masked c.split_mask-mask.result c.split_lanes-lanes.result) c.split_mask-mask.result c.loop-j.state c.matrix32_pair.new.state (omega arith)
+          (ap₂ masked c.split_mask-mask.ensures c.split_lanes-lanes.ensures ∙ split-masked a.on.now a.xs.now) c.split_mask-mask.ensures
+          c.loop-j.invariant.1 c.matrix32_pair.ensures,
+      λ p. (c.slice_known-in-loop-j-1.given p).fits,
+    )
 
 pub shape_of-state : goal.shape_of-state
 shape_of-state c = c.loop-j.invariant.1.size ∙ sym c.requires
 
 pub returns : goal.returns
-returns c = rows_end (products Mac16.matrix32 0 (masked c.args.on.now c.args.xs.now) c.args.on.now c.args.ys.now c.args.yon.now (c.args.s % 32) c.args.keep) 16 refl c.args.state.now (c.loop-j.j * 2) c.loop-j.state (omega arith) c.requires (λ p. (c.slice_known-1.given p).fits) c.loop-j.invariant.2 c.loop-j.invariant.1
+returns c =
+    let a = c.args in
+    rows_end (products Mac16.matrix32 0 (masked a.on.now a.xs.now) a.on.now a.ys.now a.yon.now (a.s % 32) a.keep) 16 refl a.state.now
+    (c.loop-j.j * 2) c.loop-j.state (omega arith) c.requires (λ p. (c.slice_known-1.given p).fits) c.loop-j.invariant.2 c.loop-j.invariant.1

@@ -17,7 +17,9 @@ returns-then-not-yon-j c = sym (pick_false _ _ c.if-not-yon-j.true)
 
 pub returns : goal.returns
 returns c =
+    let a = c.args in
     c.pair32.ensures
-    ∙ pick_true _ _ (eq-eqb (length c.args.state.now) 5120 c.requires.0)
-    ∙ ap (λ (y : ℤ). applied (run_sum 4 (c.args.j * 2) 2 (row_terms 4 32 (c.args.s % 32) (masked c.args.on.now c.args.xs.now) (replicate 32 y)) c.args.on.now c.args.keep) c.args.state.now) (to_z-of_z {w = w16} (sfits_of c.y-1.given))
+    ∙ pick_true _ _ (eq-eqb (length a.state.now) 5120 c.requires.0)
+    ∙ ap (λ (y : ℤ). applied (run_sum 4 (a.j * 2) 2 (row_terms 4 32 (a.s % 32) (masked a.on.now a.xs.now) (replicate 32 y)) a.on.now a.keep)
+    a.state.now) (to_z-of_z {w = w16} (sfits_of c.y-1.given))
     ∙ sym (pick_true _ _ c.if-not-yon-j.false)

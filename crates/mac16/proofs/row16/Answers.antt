@@ -10,5 +10,7 @@ use Rattle.mac16.proofs.row16.Goals as goal
 
 pub returns : goal.returns
 returns c =
+    let a = c.args in
     c.sum_row16.ensures
-    ∙ ap (λ (terms : List ℕ). cond (eqb (length c.args.state.now) 5120) (applied (run_sum 2 c.args.row 1 terms c.args.on.now c.args.keep) c.args.state.now) c.args.state.now) c.terms16-terms.ensures
+    ∙ ap (λ (terms : List ℕ). cond (eqb (length a.state.now) 5120) (applied (run_sum 2 a.row 1 terms a.on.now a.keep) a.state.now) a.state.now)
+    c.terms16-terms.ensures

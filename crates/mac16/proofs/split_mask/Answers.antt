@@ -12,8 +12,15 @@ pub loop-k-init : goal.loop-k-init
 loop-k-init c = (omega arith, refl, λ j h. absurd (not-suc-le-zero h))
 
 pub loop-k-preserved : goal.loop-k-preserved
-loop-k-preserved c = (omega arith, simp length-set (omega arith), fill_more false (λ i. get_or c.args.on.now (2 * (i % 16) + i / 16) false) c.loop-k.k _ c.loop-k.out (omega arith) (refl) c.loop-k.invariant.2)
+loop-k-preserved c = (
+  omega arith,
+  simp length-set (omega arith),
+  fill_more false (λ i. get_or c.args.on.now (2 * (i % 16) + i / 16) false) c.loop-k.k _ c.loop-k.out
+      (omega arith) (refl) c.loop-k.invariant.2,
+)
 
 pub returns : goal.returns
 unfolding split
-returns c = fill-all false (λ i. get_or c.args.on.now (2 * (i % 16) + i / 16) false) 32 c.loop-k.k c.loop-k.out c.loop-k.invariant.1 c.loop-k-test.false c.loop-k.invariant.2
+returns c =
+    fill-all false (λ i. get_or c.args.on.now (2 * (i % 16) + i / 16) false) 32 c.loop-k.k c.loop-k.out c.loop-k.invariant.1 c.loop-k-test.false
+    c.loop-k.invariant.2

@@ -15,8 +15,19 @@ pub loop-i-init : goal.loop-i-init
 loop-i-init c = (omega arith, refl, λ j h. absurd (not-suc-le-zero h))
 
 pub loop-i-preserved : goal.loop-i-preserved
-loop-i-preserved c = (omega arith, simp length-set (omega arith), fill_more 0 (λ k. term 2 (c.args.s % 32) (get_or c.args.xs.now k (pos 0)) (get_or c.args.ys.now k (pos 0))) c.loop-i.i c.term16.result c.loop-i.out (omega arith) (c.term16.ensures ∙ ap₂ (term 2 (c.args.s % 32)) (to_z-of_z {w = w16} (sfits_of c.term16-arg-1.given)) (to_z-of_z {w = w16} (sfits_of c.term16-arg-in-loop-i-1.given))) c.loop-i.invariant.2)
+loop-i-preserved c =
+    let a = c.args in (
+      omega arith,
+      simp length-set (omega arith),
+      fill_more 0 (λ k. term 2 (a.s % 32) (get_or a.xs.now k (pos 0)) (get_or a.ys.now k (pos 0)))
+          c.loop-i.i c.term16.result c.loop-i.out (omega arith) (c.term16.ensures
+          ∙ ap₂ (term 2 (a.s % 32)) (to_z-of_z {w = w16} (sfits_of c.term16-arg-1.given)) (to_z-of_z {w = w16} (sfits_of c.term16-arg-in-loop-i-1.given)))
+          c.loop-i.invariant.2,
+    )
 
 pub returns : goal.returns
 unfolding row_terms
-returns c = fill-all 0 (λ k. term 2 (c.args.s % 32) (get_or c.args.xs.now k (pos 0)) (get_or c.args.ys.now k (pos 0))) 32 c.loop-i.i c.loop-i.out c.loop-i.invariant.1 c.loop-i-test.false c.loop-i.invariant.2
+returns c =
+    let a = c.args in
+    fill-all 0 (λ k. term 2 (a.s % 32) (get_or a.xs.now k (pos 0)) (get_or a.ys.now k (pos 0))) 32 c.loop-i.i c.loop-i.out c.loop-i.invariant.1
+    c.loop-i-test.false c.loop-i.invariant.2

@@ -3,10 +3,18 @@ use Rattle.std.proofs.Common.{sym, ◌∙◌, to_z-of_z}
 use Rattle.number.proofs.clamped.Goals as goal
 
 pub returns-then-v-low : goal.returns-then-v-low
-returns-then-v-low c = to_z-of_z c.ranges.low ∙ sym (clamp-low c.args.low c.args.high c.args.v (rw (to_z-of_z c.ranges.v, to_z-of_z c.ranges.low) at c.if-v-low.true))
+returns-then-v-low c =
+    let a = c.args in
+    to_z-of_z c.ranges.low ∙ sym (clamp-low a.low a.high a.v (rw (to_z-of_z c.ranges.v, to_z-of_z c.ranges.low) at c.if-v-low.true))
 
 pub returns-then-high-v : goal.returns-then-high-v
-returns-then-high-v c = to_z-of_z c.ranges.high ∙ sym (clamp-high c.args.low c.args.high c.args.v (rw (to_z-of_z c.ranges.v, to_z-of_z c.ranges.low) at c.if-v-low.false) (rw (to_z-of_z c.ranges.high, to_z-of_z c.ranges.v) at c.if-high-v.true))
+returns-then-high-v c =
+    let a = c.args in
+    to_z-of_z c.ranges.high ∙ sym (clamp-high a.low a.high a.v (rw (to_z-of_z c.ranges.v, to_z-of_z c.ranges.low) at c.if-v-low.false)
+    (rw (to_z-of_z c.ranges.high, to_z-of_z c.ranges.v) at c.if-high-v.true))
 
 pub returns : goal.returns
-returns c = to_z-of_z c.ranges.v ∙ sym (clamp-in c.args.low c.args.high c.args.v (rw (to_z-of_z c.ranges.v, to_z-of_z c.ranges.low) at c.if-v-low.false) (rw (to_z-of_z c.ranges.high, to_z-of_z c.ranges.v) at c.if-high-v.false))
+returns c =
+    let a = c.args in
+    to_z-of_z c.ranges.v ∙ sym (clamp-in a.low a.high a.v (rw (to_z-of_z c.ranges.v, to_z-of_z c.ranges.low) at c.if-v-low.false)
+    (rw (to_z-of_z c.ranges.high, to_z-of_z c.ranges.v) at c.if-high-v.false))

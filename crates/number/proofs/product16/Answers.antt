@@ -19,4 +19,6 @@ pub overflow_cast-result-3 : goal.overflow_cast-result-3
 overflow_cast-result-3 c = rw (widened w16 w32 c.args.x tt c.ranges.x, widened w16 w32 c.args.y tt c.ranges.y, to_z-of_z (in32 c)) (sfits_widen tt (in32 c))
 
 pub returns : goal.returns
-returns c = rw (widened w16 w32 c.args.x tt c.ranges.x, widened w16 w32 c.args.y tt c.ranges.y, widened w32 w64 (c.args.x *ℤ c.args.y) tt (in32 c)) (refl, (in32 c).sfits)
+returns c =
+    let a = c.args in
+    rw (widened w16 w32 a.x tt c.ranges.x, widened w16 w32 a.y tt c.ranges.y, widened w32 w64 (a.x *ℤ a.y) tt (in32 c)) (refl, (in32 c).sfits)

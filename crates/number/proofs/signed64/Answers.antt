@@ -7,7 +7,13 @@ pub returns-then-n-lt9223372036854775808 : goal.returns-then-n-lt922337203685477
 returns-then-n-lt9223372036854775808 c = to_z_pos w64 (omega arith) ∙ sym (signed_low 8 c.args.n (omega arith))
 
 pub overflow_sub-result-2 : goal.overflow_sub-result-2
-overflow_sub-result-2 c = rw (to_z_pos w64 {n = 18446744073709551615 - c.args.n} (omega arith), read-top 8 c.args.n (omega arith) (omega arith)) (signed-fits w64 8 c.args.n (omega arith) (omega arith))
+overflow_sub-result-2 c =
+    let a = c.args in
+    rw (to_z_pos w64 {n = 18446744073709551615 - a.n} (omega arith), read-top 8 a.n (omega arith) (omega arith))
+    (signed-fits w64 8 a.n (omega arith) (omega arith))
 
 pub returns : goal.returns
-returns c = rw (to_z_pos w64 {n = 18446744073709551615 - c.args.n} (omega arith), read-top 8 c.args.n (omega arith) (omega arith)) (to_z-of_z (signed-fits w64 8 c.args.n (omega arith) (omega arith)))
+returns c =
+    let a = c.args in
+    rw (to_z_pos w64 {n = 18446744073709551615 - a.n} (omega arith), read-top 8 a.n (omega arith) (omega arith))
+    (to_z-of_z (signed-fits w64 8 a.n (omega arith) (omega arith)))

@@ -9,4 +9,7 @@ pub overflow_add-result : goal.overflow_add-result
 overflow_add-result c = omega (arith, start-le c.args.v c.stride.result c.stride.ensures.1, c.rounded_down.ensures.1, c.row_given.ensures.1)
 
 pub returns : goal.returns
-returns c = first-row_by c.args.generation c.args.op c.args.v c.stride.result c.row_given.result c.rounded_down.result c.stride.ensures.0 c.row_given.ensures.0 c.rounded_down.ensures.0
+returns c =
+    let a = c.args in
+    first-row_by a.generation a.op a.v c.stride.result c.row_given.result c.rounded_down.result c.stride.ensures.0 c.row_given.ensures.0
+    c.rounded_down.ensures.0

@@ -12,4 +12,6 @@ returns-then-saturates c = ap packed (sym (pick_true _ _ (sym c.saturates.ensure
 
 pub returns : goal.returns
 unfolding Vecint.widths
-returns c = width-entry c.width_number.result c.width_number.ensures.1 ∙ ap (λ (n : ℕ). packed (Vecint.widths_by n)) c.width_number.ensures.0 ∙ ap packed (sym (pick_false _ _ (sym c.saturates.ensures ∙ c.if-saturates.false)))
+returns c =
+    width-entry c.width_number.result c.width_number.ensures.1 ∙ ap (λ (n : ℕ). packed (Vecint.widths_by n)) c.width_number.ensures.0
+    ∙ ap packed (sym (pick_false _ _ (sym c.saturates.ensures ∙ c.if-saturates.false)))

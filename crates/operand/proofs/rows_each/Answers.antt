@@ -7,7 +7,11 @@ pub returns-then-reduces : goal.returns-then-reduces
 returns-then-reduces c = (sym (rows-reducing c.args.op (sym c.reduces.ensures ∙ c.if-reduces.true)), omega arith)
 
 pub returns-then-narrower-eq2 : goal.returns-then-narrower-eq2
-returns-then-narrower-eq2 c = rows-at-two c.args.op c.z_width-z.result c.narrower.result (sym c.reduces.ensures ∙ c.if-reduces.false) c.z_width-z.ensures.0 c.narrower.ensures c.if-narrower-eq2.true
+returns-then-narrower-eq2 c =
+    rows-at-two c.args.op c.z_width-z.result c.narrower.result (sym c.reduces.ensures ∙ c.if-reduces.false) c.z_width-z.ensures.0 c.narrower.ensures
+    c.if-narrower-eq2.true
 
 pub returns : goal.returns
-returns c = rows-at-one c.args.op c.z_width-z.result c.narrower.result (sym c.reduces.ensures ∙ c.if-reduces.false) c.z_width-z.ensures.0 c.narrower.ensures c.if-narrower-eq2.false
+returns c =
+    rows-at-one c.args.op c.z_width-z.result c.narrower.result (sym c.reduces.ensures ∙ c.if-reduces.false) c.z_width-z.ensures.0 c.narrower.ensures
+    c.if-narrower-eq2.false

@@ -9,7 +9,16 @@ use Rattle.reduction.specs.Reduction.{highest, high_end}
 use Rattle.reduction.proofs.high32.Goals as goal
 
 pub overflow_cast-result : goal.overflow_cast-result
-overflow_cast-result c = cast_fits c.clamped.result (subst (SFits w32) (sym (c.clamped.ensures ∙ ap (clamp_signed 4) {y = high_end c.args.below c.args.width} (to_z-of_z {w = w64} (sfits_of c.high.type_inv) ∙ c.high.ensures))) (high_fits (highest c.args.below c.args.width)))
+overflow_cast-result c =
+    let a = c.args in
+    cast_fits c.clamped.result (subst (SFits w32) (sym (c.clamped.ensures
+    ∙ ap (clamp_signed 4) {y = high_end a.below a.width} (to_z-of_z {w = w64} (sfits_of c.high.type_inv) ∙ c.high.ensures)))
+    (high_fits (highest a.below a.width)))
 
 pub returns : goal.returns
-returns c = cast_is c.clamped.result (subst (SFits w32) (sym (c.clamped.ensures ∙ ap (clamp_signed 4) {y = high_end c.args.below c.args.width} (to_z-of_z {w = w64} (sfits_of c.high.type_inv) ∙ c.high.ensures))) (high_fits (highest c.args.below c.args.width))) ∙ (c.clamped.ensures ∙ ap (clamp_signed 4) {y = high_end c.args.below c.args.width} (to_z-of_z {w = w64} (sfits_of c.high.type_inv) ∙ c.high.ensures))
+returns c =
+    let a = c.args in
+    cast_is c.clamped.result (subst (SFits w32) (sym (c.clamped.ensures
+    ∙ ap (clamp_signed 4) {y = high_end a.below a.width} (to_z-of_z {w = w64} (sfits_of c.high.type_inv) ∙ c.high.ensures)))
+    (high_fits (highest a.below a.width))) ∙ (c.clamped.ensures
+    ∙ ap (clamp_signed 4) {y = high_end a.below a.width} (to_z-of_z {w = w64} (sfits_of c.high.type_inv) ∙ c.high.ensures))

@@ -6,4 +6,8 @@ use Rattle.number.proofs.Slice.{one_byte}
 use Rattle.reduction.proofs.lane8.Goals as goal
 
 pub returns : goal.returns
-returns c = stores_1 c.args.state.now c.args.at c.chosen8.result (omega arith) ∙ stored_is 1 c.args.how c.args.state.now c.args.at c.args.on (byte_at c.args.state.now c.args.at) c.new8-n.result c.chosen8.result (one_byte (byte_at c.args.state.now) c.args.at) c.new8-n.ensures c.chosen8.ensures
+returns c =
+    let a = c.args in
+    stores_1 a.state.now a.at c.chosen8.result (omega arith)
+    ∙ stored_is 1 a.how a.state.now a.at a.on (byte_at a.state.now a.at) c.new8-n.result c.chosen8.result (one_byte (byte_at a.state.now) a.at)
+    c.new8-n.ensures c.chosen8.ensures

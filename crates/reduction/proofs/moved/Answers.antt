@@ -9,7 +9,13 @@ use Rattle.number.specs.Integers.{◌≫◌}
 use Rattle.reduction.proofs.moved.Goals as goal
 
 pub overflow_add-old : goal.overflow_add-old
-overflow_add-old c = added-fits w64 c.args.old c.rounding.result c.ranges.old (sfits_of c.rounding.type_inv) (sum_fits c.args.old c.rounding.result c.requires c.rounding.ensures.1)
+overflow_add-old c =
+    let a = c.args in
+    added-fits w64 a.old c.rounding.result c.ranges.old (sfits_of c.rounding.type_inv) (sum_fits a.old c.rounding.result c.requires c.rounding.ensures.1)
 
 pub returns : goal.returns
-returns c = to_z-of_z {w = w64} (sfits_of c.shifted.type_inv) ∙ c.shifted.ensures.0 ∙ ap (λ (x : ℤ). x ≫ (c.args.how.shift % 32)) (added_is w64 c.args.old c.rounding.result c.ranges.old (sfits_of c.rounding.type_inv) (sum_fits c.args.old c.rounding.result c.requires c.rounding.ensures.1) ∙ ap (λ (x : ℤ). c.args.old +ℤ x) c.rounding.ensures.0)
+returns c =
+    let a = c.args in
+    to_z-of_z {w = w64} (sfits_of c.shifted.type_inv) ∙ c.shifted.ensures.0
+    ∙ ap (λ (x : ℤ). x ≫ (a.how.shift % 32)) (added_is w64 a.old c.rounding.result c.ranges.old (sfits_of c.rounding.type_inv)
+    (sum_fits a.old c.rounding.result c.requires c.rounding.ensures.1) ∙ ap (λ (x : ℤ). a.old +ℤ x) c.rounding.ensures.0)

@@ -17,4 +17,7 @@ pub overflow_cast-value32 : goal.overflow_cast-value32
 overflow_cast-value32 c = rw (to_z-of_z {w = w32} (sfits_of c.value32.type_inv)) (sfits_widen {w = w32} {w' = w64} tt (sfits_of c.value32.type_inv))
 
 pub returns : goal.returns
-returns c = c.wrapped8.ensures ∙ reduced-is c.args.how 1 c.args.z _ _ c.if-how.false (to_z-of_z {w = w32} (sfits_of c.read8.type_inv) ∙ c.read8.ensures) (widened w32 w64 c.value32.result tt (sfits_of c.value32.type_inv) ∙ c.value32.ensures)
+returns c =
+    let a = c.args in
+    c.wrapped8.ensures ∙ reduced-is a.how 1 a.z _ _ c.if-how.false (to_z-of_z {w = w32} (sfits_of c.read8.type_inv) ∙ c.read8.ensures)
+    (widened w32 w64 c.value32.result tt (sfits_of c.value32.type_inv) ∙ c.value32.ensures)

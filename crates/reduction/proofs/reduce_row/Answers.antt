@@ -9,7 +9,9 @@ pub returns-then-state-ne5120 : goal.returns-then-state-ne5120
 returns-then-state-ne5120 c = sym (pick_false _ _ (ne_eqb (length c.args.state.now) 5120 c.if-state-ne5120.true))
 
 pub returns-then-row-ge64 : goal.returns-then-row-ge64
-returns-then-row-ge64 c = row-outside c.args.b c.args.row c.args.on.now c.args.how c.args.state.now c.if-row-ge64.true ∙ sym (pick_true _ _ (eq-eqb (length c.args.state.now) 5120 c.if-state-ne5120.false))
+returns-then-row-ge64 c =
+    let a = c.args in
+    row-outside a.b a.row a.on.now a.how a.state.now c.if-row-ge64.true ∙ sym (pick_true _ _ (eq-eqb (length a.state.now) 5120 c.if-state-ne5120.false))
 
 pub returns : goal.returns
 returns c = c.row_in.ensures ∙ sym (pick_true _ _ (eq-eqb (length c.args.state.now) 5120 c.if-state-ne5120.false))

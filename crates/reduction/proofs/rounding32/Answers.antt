@@ -12,4 +12,6 @@ pub overflow_cast-result : goal.overflow_cast-result
 overflow_cast-result c = cast_fits c.rounding.result (sfits_of (omega (arith, c.rounding.ensures.1)))
 
 pub returns : goal.returns
-returns c = subst (λ (r : ℤ). (r ≡ added_to c.args.how) × (mag r ≤ 2 ^ 30)) (sym (cast_is c.rounding.result (sfits_of (omega (arith, c.rounding.ensures.1))))) c.rounding.ensures
+returns c =
+    subst (λ (r : ℤ). (r ≡ added_to c.args.how) × (mag r ≤ 2 ^ 30)) (sym
+    (cast_is c.rounding.result (sfits_of (omega (arith, c.rounding.ensures.1))))) c.rounding.ensures

@@ -7,13 +7,29 @@ use Rattle.reduction.specs.Reduction.{reduce_to}
 use Rattle.reduction.proofs.row16.Goals as goal
 
 pub loop-l-init : goal.loop-l-init
-loop-l-init c = (omega arith, lanes-none 2 32 refl c.args.row (λ l. get_or c.args.on.now l false) (λ l. reduce_to 2 c.args.how) c.args.state.now c.requires.0, λ p. (c.slice_known-1.given p).fits)
+loop-l-init c =
+    let a = c.args in (
+      omega arith,
+      lanes-none 2 32 refl a.row (λ l. get_or a.on.now l false) (λ l. reduce_to 2 a.how) a.state.now c.requires.0,
+      λ p.
+          (c.slice_known-1.given p).fits,
+    )
 
 pub loop-l-preserved : goal.loop-l-preserved
-loop-l-preserved c = (omega arith, lanes-more 2 32 refl c.args.row (λ l. get_or c.args.on.now l false) (λ l. reduce_to 2 c.args.how) c.args.state.now c.loop-l.l c.loop-l.state c.lane16.new.state (λ p. (c.slice_known-1.given p).fits) c.requires.1 c.loop-l-test.true c.loop-l.invariant.1 c.lane16.ensures, λ p. (c.slice_known-in-loop-l-1.given p).fits)
+loop-l-preserved c =
+    let a = c.args in (
+      omega arith,
+      lanes-more 2 32 refl a.row (λ l. get_or a.on.now l false) (λ l. reduce_to 2 a.how) a.state.now c.loop-l.l c.loop-l.state
+          c.lane16.new.state (λ p. (c.slice_known-1.given p).fits) c.requires.1 c.loop-l-test.true c.loop-l.invariant.1 c.lane16.ensures,
+      λ p.
+          (c.slice_known-in-loop-l-1.given p).fits,
+    )
 
 pub shape_of-state : goal.shape_of-state
 shape_of-state c = c.loop-l.invariant.1.size ∙ sym c.requires.0
 
 pub returns : goal.returns
-returns c = lanes_all 2 32 refl c.args.row (λ l. get_or c.args.on.now l false) (λ l. reduce_to 2 c.args.how) c.args.state.now c.loop-l.l c.loop-l.state c.loop-l-test.false c.requires.0 (λ p. (c.slice_known-1.given p).fits) c.loop-l.invariant.2 c.loop-l.invariant.1
+returns c =
+    let a = c.args in
+    lanes_all 2 32 refl a.row (λ l. get_or a.on.now l false) (λ l. reduce_to 2 a.how) a.state.now c.loop-l.l c.loop-l.state c.loop-l-test.false
+    c.requires.0 (λ p. (c.slice_known-1.given p).fits) c.loop-l.invariant.2 c.loop-l.invariant.1

@@ -7,13 +7,29 @@ use Rattle.reduction.specs.Reduction.{reduce_to}
 use Rattle.reduction.proofs.row32.Goals as goal
 
 pub loop-l-init : goal.loop-l-init
-loop-l-init c = (omega arith, lanes-none 4 16 refl c.args.row (λ l. get_or c.args.on.now l false) (λ l. reduce_to 4 c.args.how) c.args.state.now c.requires.0, λ p. (c.slice_known-1.given p).fits)
+loop-l-init c =
+    let a = c.args in (
+      omega arith,
+      lanes-none 4 16 refl a.row (λ l. get_or a.on.now l false) (λ l. reduce_to 4 a.how) a.state.now c.requires.0,
+      λ p.
+          (c.slice_known-1.given p).fits,
+    )
 
 pub loop-l-preserved : goal.loop-l-preserved
-loop-l-preserved c = (omega arith, lanes-more 4 16 refl c.args.row (λ l. get_or c.args.on.now l false) (λ l. reduce_to 4 c.args.how) c.args.state.now c.loop-l.l c.loop-l.state c.lane32.new.state (λ p. (c.slice_known-1.given p).fits) c.requires.1 c.loop-l-test.true c.loop-l.invariant.1 c.lane32.ensures, λ p. (c.slice_known-in-loop-l-1.given p).fits)
+loop-l-preserved c =
+    let a = c.args in (
+      omega arith,
+      lanes-more 4 16 refl a.row (λ l. get_or a.on.now l false) (λ l. reduce_to 4 a.how) a.state.now c.loop-l.l c.loop-l.state
+          c.lane32.new.state (λ p. (c.slice_known-1.given p).fits) c.requires.1 c.loop-l-test.true c.loop-l.invariant.1 c.lane32.ensures,
+      λ p.
+          (c.slice_known-in-loop-l-1.given p).fits,
+    )
 
 pub shape_of-state : goal.shape_of-state
 shape_of-state c = c.loop-l.invariant.1.size ∙ sym c.requires.0
 
 pub returns : goal.returns
-returns c = lanes_all 4 16 refl c.args.row (λ l. get_or c.args.on.now l false) (λ l. reduce_to 4 c.args.how) c.args.state.now c.loop-l.l c.loop-l.state c.loop-l-test.false c.requires.0 (λ p. (c.slice_known-1.given p).fits) c.loop-l.invariant.2 c.loop-l.invariant.1
+returns c =
+    let a = c.args in
+    lanes_all 4 16 refl a.row (λ l. get_or a.on.now l false) (λ l. reduce_to 4 a.how) a.state.now c.loop-l.l c.loop-l.state c.loop-l-test.false
+    c.requires.0 (λ p. (c.slice_known-1.given p).fits) c.loop-l.invariant.2 c.loop-l.invariant.1

@@ -8,10 +8,17 @@ use Rattle.reduction.specs.Reduction.{shifted_by}
 use Rattle.reduction.proofs.value.Goals as goal
 
 pub returns-then-how : goal.returns-then-how
-returns-then-how c = to_z-of_z {w = w64} (sfits_of c.clamped.type_inv)
+returns-then-how c =
+    let a = c.args in
+    to_z-of_z {w = w64} (sfits_of c.clamped.type_inv)
     ∙ c.clamped.ensures
-    ∙ (λ i. clamp ((to_z-of_z {w = w64} (sfits_of c.low.type_inv) ∙ c.low.ensures) i) ((to_z-of_z {w = w64} (sfits_of c.high.type_inv) ∙ c.high.ensures) i) (to_z-of_z {w = w64} {z = c.moved-v.result} (sfits_of c.moved-v.type_inv) i))
-    ∙ value-clamped c.args.how c.args.old c.moved-v.result (c.moved-v.ensures ∙ ap (shifted_by c.args.how) (to_z-of_z c.ranges.old)) c.if-how.true
+    ∙ (λ i. clamp ((to_z-of_z {w = w64} (sfits_of c.low.type_inv) ∙ c.low.ensures) i)
+    ((to_z-of_z {w = w64} (sfits_of c.high.type_inv) ∙ c.high.ensures) i)
+    (to_z-of_z {w = w64} {z = c.moved-v.result} (sfits_of c.moved-v.type_inv) i))
+    ∙ value-clamped a.how a.old c.moved-v.result (c.moved-v.ensures ∙ ap (shifted_by a.how) (to_z-of_z c.ranges.old)) c.if-how.true
 
 pub returns : goal.returns
-returns c = to_z-of_z {w = w64} (sfits_of c.moved-v.type_inv) ∙ value-left c.args.how c.args.old c.moved-v.result (c.moved-v.ensures ∙ ap (shifted_by c.args.how) (to_z-of_z c.ranges.old)) c.if-how.false
+returns c =
+    let a = c.args in
+    to_z-of_z {w = w64} (sfits_of c.moved-v.type_inv) ∙ value-left a.how a.old c.moved-v.result
+    (c.moved-v.ensures ∙ ap (shifted_by a.how) (to_z-of_z c.ranges.old)) c.if-how.false

@@ -9,11 +9,18 @@ use mir.Syntax.{w32}
 use Rattle.reduction.proofs.value32.Goals as goal
 
 pub returns-then-how : goal.returns-then-how
-returns-then-how c = to_z-of_z {w = w32} (sfits_of c.clamped32.type_inv)
+returns-then-how c =
+    let a = c.args in
+    to_z-of_z {w = w32} (sfits_of c.clamped32.type_inv)
     ∙ c.clamped32.ensures
-    ∙ (λ i. clamp ((to_z-of_z {w = w32} (sfits_of c.low32.type_inv) ∙ c.low32.ensures) i) ((to_z-of_z {w = w32} (sfits_of c.high32.type_inv) ∙ c.high32.ensures) i) (to_z-of_z {w = w32} {z = c.moved32-v.result} (sfits_of c.moved32-v.type_inv) i))
-    ∙ clamp-same (low_end c.args.how.below c.args.how.width) (highest c.args.how.below c.args.how.width) c.moved32-v.result c.moved32-v.type_inv
-    ∙ value-clamped c.args.how c.args.old c.moved32-v.result (c.moved32-v.ensures ∙ ap (shifted_by c.args.how) (to_z-of_z c.ranges.old)) c.if-how.true
+    ∙ (λ i. clamp ((to_z-of_z {w = w32} (sfits_of c.low32.type_inv) ∙ c.low32.ensures) i)
+    ((to_z-of_z {w = w32} (sfits_of c.high32.type_inv) ∙ c.high32.ensures) i)
+    (to_z-of_z {w = w32} {z = c.moved32-v.result} (sfits_of c.moved32-v.type_inv) i))
+    ∙ clamp-same (low_end a.how.below a.how.width) (highest a.how.below a.how.width) c.moved32-v.result c.moved32-v.type_inv
+    ∙ value-clamped a.how a.old c.moved32-v.result (c.moved32-v.ensures ∙ ap (shifted_by a.how) (to_z-of_z c.ranges.old)) c.if-how.true
 
 pub returns : goal.returns
-returns c = to_z-of_z {w = w32} (sfits_of c.moved32-v.type_inv) ∙ value-left c.args.how c.args.old c.moved32-v.result (c.moved32-v.ensures ∙ ap (shifted_by c.args.how) (to_z-of_z c.ranges.old)) c.if-how.false
+returns c =
+    let a = c.args in
+    to_z-of_z {w = w32} (sfits_of c.moved32-v.type_inv) ∙ value-left a.how a.old c.moved32-v.result
+    (c.moved32-v.ensures ∙ ap (shifted_by a.how) (to_z-of_z c.ranges.old)) c.if-how.false

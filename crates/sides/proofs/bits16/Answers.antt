@@ -34,10 +34,17 @@ pub overflow_sub-result-then-v-lt0 : goal.overflow_sub-result-then-v-lt0
 overflow_sub-result-then-v-lt0 c = rw (to_z-of_z c.ranges.v, below c, to_z-of_z (held c)) (omega (arith, c.ranges.v.sfits))
 
 pub returns-then-v-lt0 : goal.returns-then-v-lt0
-returns-then-v-lt0 c = rw (to_z-of_z c.ranges.v, below c, to_z-of_z (held c)) (ap (signed 2) (wrap-below (2 ^ 16) c.args.v (rw (to_z-of_z c.ranges.v) at c.if-v-lt0.true) (omega (arith, c.ranges.v.sfits))) ∙ kept_same 2 c.args.v (omega (arith, c.ranges.v.sfits)))
+returns-then-v-lt0 c =
+    let a = c.args in
+    rw (to_z-of_z c.ranges.v, below c, to_z-of_z (held c)) (ap (signed 2)
+    (wrap-below (2 ^ 16) a.v (rw (to_z-of_z c.ranges.v) at c.if-v-lt0.true) (omega (arith, c.ranges.v.sfits)))
+    ∙ kept_same 2 a.v (omega (arith, c.ranges.v.sfits)))
 
 pub overflow_cast-result-2 : goal.overflow_cast-result-2
 overflow_cast-result-2 c = rw (to_z-of_z c.ranges.v) (not_below c.args.v (above c), record { fits = omega (arith, nat_abs-le c.args.v c.ranges.v.sfits) })
 
 pub returns : goal.returns
-returns c = rw (to_z-of_z c.ranges.v) (ap (signed 2) (wrap-above (2 ^ 16) c.args.v (above c) (omega (arith, c.ranges.v.sfits))) ∙ kept_same 2 c.args.v (omega (arith, c.ranges.v.sfits)))
+returns c =
+    let a = c.args in
+    rw (to_z-of_z c.ranges.v) (ap (signed 2) (wrap-above (2 ^ 16) a.v (above c) (omega (arith, c.ranges.v.sfits)))
+    ∙ kept_same 2 a.v (omega (arith, c.ranges.v.sfits)))

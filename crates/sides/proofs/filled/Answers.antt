@@ -10,7 +10,9 @@ pub loop-i-init : goal.loop-i-init
 loop-i-init c = (omega arith, refl, λ j h. absurd (not-suc-le-zero h))
 
 pub loop-i-preserved : goal.loop-i-preserved
-loop-i-preserved c = (omega arith, simp length-set (omega arith), fill_more 0 (λ k. c.args.v) c.loop-i.i c.args.v c.loop-i.out (omega arith) refl c.loop-i.invariant.2)
+loop-i-preserved c =
+    let a = c.args in
+    (omega arith, simp length-set (omega arith), fill_more 0 (λ k. a.v) c.loop-i.i a.v c.loop-i.out (omega arith) refl c.loop-i.invariant.2)
 
 pub returns : goal.returns
 returns c = λ k l h. c.loop-i.invariant.2 k (omega (arith, c.loop-i-test.false, inside c.args.n c.at_most_64-m.result c.at_most_64-m.ensures.0 k l h))

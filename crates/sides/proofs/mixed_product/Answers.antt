@@ -14,7 +14,13 @@ pub overflow_cast-result : goal.overflow_cast-result
 overflow_cast-result c = rw (to_z-of_z c.ranges.x) (sfits_widen tt c.ranges.x)
 
 pub overflow_mul-result : goal.overflow_mul-result
-overflow_mul-result c = let h : SFits w32 (c.args.x *ℤ pos c.args.y) = sfits_of (omega (arith, mag-mixed c.args.x c.args.y c.ranges.x.sfits (omega arith))) in rw (widened w16 w32 c.args.x tt c.ranges.x, to_z_pos w32 {n = c.args.y} (omega arith)) h
+overflow_mul-result c =
+    let a = c.args in
+    let h : SFits w32 (a.x *ℤ pos a.y) = sfits_of (omega (arith, mag-mixed a.x a.y c.ranges.x.sfits (omega arith))) in rw
+    (widened w16 w32 a.x tt c.ranges.x, to_z_pos w32 {n = a.y} (omega arith)) h
 
 pub returns : goal.returns
-returns c = let h : SFits w32 (c.args.x *ℤ pos c.args.y) = sfits_of (omega (arith, mag-mixed c.args.x c.args.y c.ranges.x.sfits (omega arith))) in rw (widened w16 w32 c.args.x tt c.ranges.x, to_z_pos w32 {n = c.args.y} (omega arith), to_z-of_z h) (refl, mag-mixed c.args.x c.args.y c.ranges.x.sfits (omega arith))
+returns c =
+    let a = c.args in
+    let h : SFits w32 (a.x *ℤ pos a.y) = sfits_of (omega (arith, mag-mixed a.x a.y c.ranges.x.sfits (omega arith))) in rw
+    (widened w16 w32 a.x tt c.ranges.x, to_z_pos w32 {n = a.y} (omega arith), to_z-of_z h) (refl, mag-mixed a.x a.y c.ranges.x.sfits (omega arith))

@@ -13,11 +13,25 @@ use mir.Syntax.{w32}
 use Rattle.sides.proofs.mixed_products.Goals as goal
 
 pub loop-i-init : goal.loop-i-init
-loop-i-init c = (omega arith, refl, begun-none (pos 0) (kept_at c.args.n false c.args.rounds (c.args.s % 32) (values_of true c.args.xs.now) (values_of false c.args.ys.now)) 64)
+loop-i-init c =
+    let a = c.args in
+    (omega arith, refl, begun-none (pos 0) (kept_at a.n false a.rounds (a.s % 32) (values_of true a.xs.now) (values_of false a.ys.now)) 64)
 
 pub loop-i-preserved : goal.loop-i-preserved
-loop-i-preserved c = (omega arith, simp length-set (omega arith), begun_more (pos 0) (kept_at c.args.n false c.args.rounds (c.args.s % 32) (values_of true c.args.xs.now) (values_of false c.args.ys.now)) c.loop-i.i _ c.loop-i.out (omega arith) (kept_in c.args.n c.at_most_64-m.result c.at_most_64-m.ensures.0 false c.args.rounds (c.args.s % 32) true false c.args.xs.now c.args.ys.now c.loop-i.i _ c.loop-i-test.true (omega arith) (to_z-of_z {w = w32} (sfits_of c.mixed_term.type_inv) ∙ c.mixed_term.ensures)) c.loop-i.invariant.2)
+loop-i-preserved c =
+    let a = c.args in (
+      omega arith,
+      simp length-set (omega arith),
+      begun_more (pos 0) (kept_at a.n false a.rounds (a.s % 32) (values_of true a.xs.now)
+          (values_of false a.ys.now)) c.loop-i.i _ c.loop-i.out (omega arith)
+          (kept_in a.n c.at_most_64-m.result c.at_most_64-m.ensures.0 false a.rounds (a.s % 32) true false a.xs.now a.ys.now c.loop-i.i _
+          c.loop-i-test.true (omega arith) (to_z-of_z {w = w32} (sfits_of c.mixed_term.type_inv) ∙ c.mixed_term.ensures)) c.loop-i.invariant.2,
+    )
 
 pub returns : goal.returns
 unfolding kept_terms
-returns c = begun_all (pos 0) (kept_at c.args.n false c.args.rounds (c.args.s % 32) (values_of true c.args.xs.now) (values_of false c.args.ys.now)) 64 c.loop-i.i c.loop-i.out c.loop-i.invariant.1 (λ k h l. kept_out c.args.n c.at_most_64-m.result c.at_most_64-m.ensures.0 false c.args.rounds (c.args.s % 32) (values_of true c.args.xs.now) (values_of false c.args.ys.now) k (omega arith) l) c.loop-i.invariant.2
+returns c =
+    let a = c.args in
+    begun_all (pos 0) (kept_at a.n false a.rounds (a.s % 32) (values_of true a.xs.now) (values_of false a.ys.now)) 64 c.loop-i.i c.loop-i.out
+    c.loop-i.invariant.1 (λ k h l. kept_out a.n c.at_most_64-m.result c.at_most_64-m.ensures.0 false a.rounds (a.s % 32) (values_of true a.xs.now)
+    (values_of false a.ys.now) k (omega arith) l) c.loop-i.invariant.2

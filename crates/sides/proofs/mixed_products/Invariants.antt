@@ -9,7 +9,8 @@ use Rattle.sides.proofs.Kept.{kept_at}
 use Rattle.sides.proofs.mixed_products.Given as goal
 
 abbrev pub invariant-loop-i : goal.invariant-loop-i
-invariant-loop-i l = (l.i ≤ l.m) × (length l.out ≡ 64) × Begun (pos 0) (kept_at l.n false l.rounds (l.s % 32) (values_of true l.xs) (values_of false l.ys)) l.out l.i
+invariant-loop-i l =
+    (l.i ≤ l.m) × (length l.out ≡ 64) × Begun (pos 0) (kept_at l.n false l.rounds (l.s % 32) (values_of true l.xs) (values_of false l.ys)) l.out l.i
 
 abbrev pub decreases-loop-i : goal.decreases-loop-i
 decreases-loop-i l = l.m - l.i

@@ -9,7 +9,13 @@ use mir.Syntax.{w32}
 use Rattle.sides.proofs.moved.Goals as goal
 
 pub overflow_add-v : goal.overflow_add-v
-overflow_add-v c = sum_fits c.args.v c.rounding32.result c.ranges.v (sfits_of c.rounding32.type_inv) (rounded c.args.v c.rounding32.result c.requires c.rounding32.ensures.1)
+overflow_add-v c =
+    let a = c.args in
+    sum_fits a.v c.rounding32.result c.ranges.v (sfits_of c.rounding32.type_inv) (rounded a.v c.rounding32.result c.requires c.rounding32.ensures.1)
 
 pub returns : goal.returns
-returns c = to_z-of_z {w = w32} (sfits_of c.shifted32.type_inv) ∙ c.shifted32.ensures ∙ ap (λ (z : ℤ). z ≫ (c.args.s % 32)) (sum_is c.args.v c.rounding32.result c.ranges.v (sfits_of c.rounding32.type_inv) (rounded c.args.v c.rounding32.result c.requires c.rounding32.ensures.1) ∙ ap (λ (z : ℤ). c.args.v +ℤ z) c.rounding32.ensures.0)
+returns c =
+    let a = c.args in
+    to_z-of_z {w = w32} (sfits_of c.shifted32.type_inv) ∙ c.shifted32.ensures
+    ∙ ap (λ (z : ℤ). z ≫ (a.s % 32)) (sum_is a.v c.rounding32.result c.ranges.v (sfits_of c.rounding32.type_inv)
+    (rounded a.v c.rounding32.result c.requires c.rounding32.ensures.1) ∙ ap (λ (z : ℤ). a.v +ℤ z) c.rounding32.ensures.0)

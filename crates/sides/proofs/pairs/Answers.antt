@@ -10,7 +10,16 @@ pub loop-i-init : goal.loop-i-init
 loop-i-init c = (omega arith, refl, begun-none 0 (pair_of c.args.bytes) 64)
 
 pub loop-i-preserved : goal.loop-i-preserved
-loop-i-preserved c = (omega arith, simp length-set (omega arith), begun_more 0 (pair_of c.args.bytes) c.loop-i.i c.pair.result c.loop-i.out (omega arith) (pair_is c.args.bytes c.loop-i.i c.pair.result c.pair.ensures) c.loop-i.invariant.2)
+loop-i-preserved c =
+    let a = c.args in (
+      omega arith,
+      simp length-set (omega arith),
+      begun_more 0 (pair_of a.bytes) c.loop-i.i c.pair.result c.loop-i.out (omega arith)
+          (pair_is a.bytes c.loop-i.i c.pair.result c.pair.ensures) c.loop-i.invariant.2,
+    )
 
 pub returns : goal.returns
-returns c = begun_all 0 (pair_of c.args.bytes) 64 c.loop-i.i c.loop-i.out c.loop-i.invariant.1 (λ k h l. pair-past c.args.bytes (omega arith) k (omega arith)) c.loop-i.invariant.2
+returns c =
+    let a = c.args in
+    begun_all 0 (pair_of a.bytes) 64 c.loop-i.i c.loop-i.out c.loop-i.invariant.1 (λ k h l. pair-past a.bytes (omega arith) k (omega arith))
+    c.loop-i.invariant.2

@@ -8,7 +8,11 @@ use mir.Facts.{to_z_pos}
 use Rattle.sides.proofs.sign8.Goals as goal
 
 pub overflow_sub-result : goal.overflow_sub-result
-overflow_sub-result c = rw (to_z_pos w16 {n = (c.args.n + 128) % 256} (omega arith), shifted-byte c.args.n (omega arith)) (signed-fits w16 1 c.args.n (omega arith) (omega arith))
+overflow_sub-result c =
+    let a = c.args in
+    rw (to_z_pos w16 {n = (a.n + 128) % 256} (omega arith), shifted-byte a.n (omega arith)) (signed-fits w16 1 a.n (omega arith) (omega arith))
 
 pub returns : goal.returns
-returns c = rw (to_z_pos w16 {n = (c.args.n + 128) % 256} (omega arith), shifted-byte c.args.n (omega arith)) (to_z-of_z (signed-fits w16 1 c.args.n (omega arith) (omega arith)))
+returns c =
+    let a = c.args in
+    rw (to_z_pos w16 {n = (a.n + 128) % 256} (omega arith), shifted-byte a.n (omega arith)) (to_z-of_z (signed-fits w16 1 a.n (omega arith) (omega arith)))

@@ -16,7 +16,13 @@ pub overflow_cast-result-2 : goal.overflow_cast-result-2
 overflow_cast-result-2 c = rw (to_z-of_z c.ranges.y) (sfits_widen tt c.ranges.y)
 
 pub overflow_mul-result : goal.overflow_mul-result
-overflow_mul-result c = rw (widened w16 w32 c.args.x tt c.ranges.x, widened w16 w32 c.args.y tt c.ranges.y) (sfits_of (omega (arith, mag-mul c.args.x c.args.y c.ranges.x.sfits c.ranges.y.sfits)))
+overflow_mul-result c =
+    let a = c.args in
+    rw (widened w16 w32 a.x tt c.ranges.x, widened w16 w32 a.y tt c.ranges.y) (sfits_of (omega (arith, mag-mul a.x a.y c.ranges.x.sfits c.ranges.y.sfits)))
 
 pub returns : goal.returns
-returns c = let h : SFits w32 (c.args.x *ℤ c.args.y) = sfits_of (omega (arith, mag-mul c.args.x c.args.y c.ranges.x.sfits c.ranges.y.sfits)) in rw (widened w16 w32 c.args.x tt c.ranges.x, widened w16 w32 c.args.y tt c.ranges.y, to_z-of_z h) (refl, omega (arith, mag-mul c.args.x c.args.y c.ranges.x.sfits c.ranges.y.sfits))
+returns c =
+    let a = c.args in
+    let h : SFits w32 (a.x *ℤ a.y) = sfits_of (omega (arith, mag-mul a.x a.y c.ranges.x.sfits c.ranges.y.sfits)) in rw
+    (widened w16 w32 a.x tt c.ranges.x, widened w16 w32 a.y tt c.ranges.y, to_z-of_z h)
+    (refl, omega (arith, mag-mul a.x a.y c.ranges.x.sfits c.ranges.y.sfits))

@@ -10,4 +10,9 @@ use mir.Syntax.{w16, w32}
 use Rattle.sides.proofs.signed_term.Goals as goal
 
 pub returns : goal.returns
-returns c = to_z-of_z {w = w32} (sfits_of c.moved.type_inv) ∙ kept-term false c.args.rounds (c.args.s % 32) (signed 2 c.args.x) (signed 2 c.args.y) _ c.moved.result c.moved.type_inv (to_z-of_z {w = w32} (sfits_of c.signed_product.type_inv) ∙ c.signed_product.ensures.0 ∙ ap₂ ◌*ℤ◌ (to_z-of_z {w = w16} (sfits_of c.signed16.type_inv) ∙ c.signed16.ensures) (to_z-of_z {w = w16} (sfits_of c.signed16-2.type_inv) ∙ c.signed16-2.ensures)) c.moved.ensures
+returns c =
+    let a = c.args in
+    to_z-of_z {w = w32} (sfits_of c.moved.type_inv) ∙ kept-term false a.rounds (a.s % 32) (signed 2 a.x) (signed 2 a.y) _ c.moved.result
+    c.moved.type_inv (to_z-of_z {w = w32} (sfits_of c.signed_product.type_inv) ∙ c.signed_product.ensures.0
+    ∙ ap₂ ◌*ℤ◌ (to_z-of_z {w = w16} (sfits_of c.signed16.type_inv) ∙ c.signed16.ensures)
+    (to_z-of_z {w = w16} (sfits_of c.signed16-2.type_inv) ∙ c.signed16-2.ensures)) c.moved.ensures

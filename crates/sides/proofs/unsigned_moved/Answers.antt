@@ -10,7 +10,19 @@ use Rattle.sides.proofs.Kept.{shifted_up}
 use Rattle.sides.proofs.unsigned_moved.Goals as goal
 
 pub overflow_cast-result : goal.overflow_cast-result
-overflow_cast-result c = rw (to_z-of_z {w = w64} (sfits_of c.shifted.type_inv)) ((shifted_up (c.args.v + c.unsigned_rounding.result) (c.args.s % 32) c.shifted.result (omega arith) (c.shifted.ensures.0 ∙ ap (λ (z : ℤ). z ≫ (c.args.s % 32)) (to_z_pos w64 {n = (c.args.v + c.unsigned_rounding.result)} (omega arith)))).0, record { fits = (shifted_up (c.args.v + c.unsigned_rounding.result) (c.args.s % 32) c.shifted.result (omega arith) (c.shifted.ensures.0 ∙ ap (λ (z : ℤ). z ≫ (c.args.s % 32)) (to_z_pos w64 {n = (c.args.v + c.unsigned_rounding.result)} (omega arith)))).1 })
+overflow_cast-result c =
+    let a = c.args in
+    let n : ℕ = a.v + c.unsigned_rounding.result in
+    let up =
+    shifted_up n (a.s % 32) c.shifted.result (omega arith)
+    (c.shifted.ensures.0 ∙ ap (λ (z : ℤ). z ≫ (a.s % 32)) (to_z_pos w64 {n = n} (omega arith)))
+    in
+    rw (to_z-of_z {w = w64} (sfits_of c.shifted.type_inv)) (up.0, record { fits = up.1 })
 
 pub returns : goal.returns
-returns c = ap nat_abs {y = c.shifted.result} (to_z-of_z {w = w64} (sfits_of c.shifted.type_inv)) ∙ (shifted_up (c.args.v + c.unsigned_rounding.result) (c.args.s % 32) c.shifted.result (omega arith) (c.shifted.ensures.0 ∙ ap (λ (z : ℤ). z ≫ (c.args.s % 32)) (to_z_pos w64 {n = (c.args.v + c.unsigned_rounding.result)} (omega arith)))).2 ∙ ap (λ (k : ℕ). (c.args.v + k) / 2 ^ (c.args.s % 32)) c.unsigned_rounding.ensures.0
+returns c =
+    let a = c.args in
+    ap nat_abs {y = c.shifted.result} (to_z-of_z {w = w64} (sfits_of c.shifted.type_inv))
+    ∙ (shifted_up (a.v + c.unsigned_rounding.result) (a.s % 32) c.shifted.result (omega arith)
+    (c.shifted.ensures.0 ∙ ap (λ (z : ℤ). z ≫ (a.s % 32)) (to_z_pos w64 {n = (a.v + c.unsigned_rounding.result)} (omega arith)))).2
+    ∙ ap (λ (k : ℕ). (a.v + k) / 2 ^ (a.s % 32)) c.unsigned_rounding.ensures.0

@@ -8,4 +8,7 @@ use mir.Syntax.{w32}
 use Rattle.sides.proofs.unsigned_term.Goals as goal
 
 pub returns : goal.returns
-returns c = kept-unsigned c.args.rounds (c.args.s % 32) c.args.x c.args.y c.unsigned_product.result c.unsigned_moved.result _ (omega arith) c.unsigned_product.ensures.0 c.unsigned_moved.ensures (to_z-of_z {w = w32} (sfits_of c.signed32.type_inv) ∙ c.signed32.ensures)
+returns c =
+    let a = c.args in
+    kept-unsigned a.rounds (a.s % 32) a.x a.y c.unsigned_product.result c.unsigned_moved.result _ (omega arith) c.unsigned_product.ensures.0
+    c.unsigned_moved.ensures (to_z-of_z {w = w32} (sfits_of c.signed32.type_inv) ∙ c.signed32.ensures)

@@ -6,7 +6,13 @@ use Rattle.vecint.proofs.Bounds.{place_in, lane-at}
 use Rattle.vecint.proofs.alu_row32.Goals as goal
 
 pub loop-l-init : goal.loop-l-init
-loop-l-init c = (omega arith, lanes-none 4 16 refl c.args.row (λ l. get_or c.args.on.now (l * c.args.c + c.args.q) false) (λ l. accumulate true c.args.how c.args.terms.now (l * c.args.c + c.args.q)) c.args.state.now c.requires.0, λ p. (c.slice_known-1.given p).fits)
+loop-l-init c =
+    let a = c.args in (
+      omega arith,
+      lanes-none 4 16 refl a.row (λ l. get_or a.on.now (l * a.c + a.q) false) (λ l. accumulate true a.how a.terms.now (l * a.c + a.q))
+          a.state.now c.requires.0,
+      λ p. (c.slice_known-1.given p).fits,
+    )
 
 pub overflow_mul-k : goal.overflow_mul-k
 overflow_mul-k c = omega (arith, place_in true c.loop-l.l c.args.q c.args.c c.loop-l-test.true c.requires.2 (omega (arith, c.requires.3)))
@@ -27,10 +33,22 @@ pub bounds-on-k : goal.bounds-on-k
 bounds-on-k c = omega (arith, place_in true c.loop-l.l c.args.q c.args.c c.loop-l-test.true c.requires.2 (omega (arith, c.requires.3)))
 
 pub loop-l-preserved : goal.loop-l-preserved
-loop-l-preserved c = (omega arith, lanes-more 4 16 refl c.args.row (λ l. get_or c.args.on.now (l * c.args.c + c.args.q) false) (λ l. accumulate true c.args.how c.args.terms.now (l * c.args.c + c.args.q)) c.args.state.now c.loop-l.l c.loop-l.state c.lane32.new.state (λ p. (c.slice_known-1.given p).fits) c.requires.1 c.loop-l-test.true c.loop-l.invariant.1 (c.lane32.ensures ∙ (λ i. lane_stored true c.args.how c.loop-l.state (lane-at c.args.row (c.loop-l.l * 4) c.requires.1 i) (to_z-of_z {w = w32} {z = get_or c.args.terms.now (c.loop-l.l * c.args.c + c.args.q) (pos 0)} (sfits_of c.lane32-arg-in-loop-l-1.given) i) (get_or c.args.on.now (c.loop-l.l * c.args.c + c.args.q) false))), λ p. (c.slice_known-in-loop-l-1.given p).fits)
+loop-l-preserved c =
+    let a = c.args in (
+      omega arith,
+      lanes-more 4 16 refl a.row (λ l. get_or a.on.now (l * a.c + a.q) false) (λ l. accumulate true a.how a.terms.now (l * a.c + a.q))
+          a.state.now c.loop-l.l c.loop-l.state c.lane32.new.state (λ p. (c.slice_known-1.given p).fits) c.requires.1 c.loop-l-test.true
+          c.loop-l.invariant.1 (c.lane32.ensures ∙ (λ i. lane_stored true a.how c.loop-l.state (lane-at a.row (c.loop-l.l * 4) c.requires.1 i)
+          (to_z-of_z {w = w32} {z = get_or a.terms.now (c.loop-l.l * a.c + a.q) (pos 0)} (sfits_of c.lane32-arg-in-loop-l-1.given) i)
+          (get_or a.on.now (c.loop-l.l * a.c + a.q) false))),
+      λ p. (c.slice_known-in-loop-l-1.given p).fits,
+    )
 
 pub shape_of-state : goal.shape_of-state
 shape_of-state c = c.loop-l.invariant.1.size ∙ sym c.requires.0
 
 pub returns : goal.returns
-returns c = lanes_all 4 16 refl c.args.row (λ l. get_or c.args.on.now (l * c.args.c + c.args.q) false) (λ l. accumulate true c.args.how c.args.terms.now (l * c.args.c + c.args.q)) c.args.state.now c.loop-l.l c.loop-l.state c.loop-l-test.false c.requires.0 (λ p. (c.slice_known-1.given p).fits) c.loop-l.invariant.2 c.loop-l.invariant.1
+returns c =
+    let a = c.args in
+    lanes_all 4 16 refl a.row (λ l. get_or a.on.now (l * a.c + a.q) false) (λ l. accumulate true a.how a.terms.now (l * a.c + a.q)) a.state.now
+    c.loop-l.l c.loop-l.state c.loop-l-test.false c.requires.0 (λ p. (c.slice_known-1.given p).fits) c.loop-l.invariant.2 c.loop-l.invariant.1

@@ -15,10 +15,20 @@ pub overflow_cast-t : goal.overflow_cast-t
 overflow_cast-t c = rw (to_z-of_z {w = w32} c.ranges.t) (sfits_widen {w = w32} {w' = w64} tt c.ranges.t)
 
 pub returns-then-how : goal.returns-then-how
-returns-then-how c = c.wrapped16.ensures ∙ ap (wrap (span 2)) (to_z-of_z {w = w64} (sfits_of c.clamped.type_inv) ∙ c.clamped.ensures ∙ ap (clamp (negsuc 32767) (pos 32767)) {y = c.added-v.result} (to_z-of_z {w = w64} (sfits_of c.added-v.type_inv)) ∙ clamp-sum c.args.how (signed 2 c.args.z) c.args.t c.added-v.result c.signed_by.result c.if-how.true (c.signed_by.ensures ∙ ap (λ (t : ℤ). cond c.args.how.negates (kept 8 (neg_ℤ t)) t) (widened w32 w64 c.args.t tt c.ranges.t)) (c.added-v.ensures ∙ ap₂ (λ (x y : ℤ). kept 8 (x +ℤ y)) (widened w16 w64 c.signed16.result tt (sfits_of c.signed16.type_inv) ∙ c.signed16.ensures) (to_z-of_z {w = w64} (sfits_of c.signed_by.type_inv))))
+returns-then-how c =
+    let a = c.args in
+    c.wrapped16.ensures ∙ ap (wrap (span 2)) (to_z-of_z {w = w64} (sfits_of c.clamped.type_inv) ∙ c.clamped.ensures
+    ∙ ap (clamp (negsuc 32767) (pos 32767)) {y = c.added-v.result} (to_z-of_z {w = w64} (sfits_of c.added-v.type_inv))
+    ∙ clamp-sum a.how (signed 2 a.z) a.t c.added-v.result c.signed_by.result c.if-how.true
+    (c.signed_by.ensures ∙ ap (λ (t : ℤ). cond a.how.negates (kept 8 (neg_ℤ t)) t) (widened w32 w64 a.t tt c.ranges.t))
+    (c.added-v.ensures ∙ ap₂ (λ (x y : ℤ). kept 8 (x +ℤ y)) (widened w16 w64 c.signed16.result tt (sfits_of c.signed16.type_inv)
+    ∙ c.signed16.ensures) (to_z-of_z {w = w64} (sfits_of c.signed_by.type_inv))))
 
 pub overflow_cast-t-2 : goal.overflow_cast-t-2
 overflow_cast-t-2 c = rw (to_z-of_z {w = w32} c.ranges.t) (sfits_widen {w = w32} {w' = w64} tt c.ranges.t)
 
 pub returns : goal.returns
-returns c = c.wrapped16-2.ensures ∙ ap (wrap (span 2)) (to_z-of_z {w = w64} (sfits_of c.clamped-2.type_inv) ∙ c.clamped-2.ensures ∙ ap (clamp (negsuc 32767) (pos 32767)) {y = c.args.t} (widened w32 w64 c.args.t tt c.ranges.t) ∙ clamp-term c.args.how (signed 2 c.args.z) c.args.t c.if-how.false)
+returns c =
+    let a = c.args in
+    c.wrapped16-2.ensures ∙ ap (wrap (span 2)) (to_z-of_z {w = w64} (sfits_of c.clamped-2.type_inv) ∙ c.clamped-2.ensures
+    ∙ ap (clamp (negsuc 32767) (pos 32767)) {y = a.t} (widened w32 w64 a.t tt c.ranges.t) ∙ clamp-term a.how (signed 2 a.z) a.t c.if-how.false)

@@ -6,4 +6,9 @@ use Rattle.vecint.specs.Accumulation.{accumulated}
 use Rattle.vecint.proofs.lane16.Goals as goal
 
 pub returns : goal.returns
-returns c = c.put16.ensures ∙ ap (λ (n : ℕ). sets c.args.state.now c.args.at (bytes_of 2 n)) (c.chosen16.ensures ∙ ap₂ (cond c.args.on) (c.new16-n.ensures ∙ ap (λ (t : ℤ). wrap (span 2) (accumulated false c.args.how (signed 2 c.get16-z.result) t)) (to_z-of_z c.ranges.t)) refl ∙ ap (λ (z : ℕ). cond c.args.on (wrap (span 2) (accumulated false c.args.how (signed 2 z) c.args.t)) z) c.get16-z.ensures)
+returns c =
+    let a = c.args in
+    c.put16.ensures ∙ ap (λ (n : ℕ). sets a.state.now a.at (bytes_of 2 n))
+    (c.chosen16.ensures ∙ ap₂ (cond a.on) (c.new16-n.ensures
+    ∙ ap (λ (t : ℤ). wrap (span 2) (accumulated false a.how (signed 2 c.get16-z.result) t)) (to_z-of_z c.ranges.t)) refl
+    ∙ ap (λ (z : ℕ). cond a.on (wrap (span 2) (accumulated false a.how (signed 2 z) a.t)) z) c.get16-z.ensures)

@@ -6,7 +6,13 @@ use Rattle.vecint.specs.Accumulation.{summed, clamped_sum}
 use Rattle.vecint.proofs.new16.Goals as goal
 
 pub returns-then-how : goal.returns-then-how
-returns-then-how c = c.clamp16.ensures ∙ ap (λ (t : ℤ). wrap (span 2) (clamped_sum c.args.how (signed 2 c.args.z) t)) (to_z-of_z c.ranges.t) ∙ ap (wrap (span 2)) (is-clamped c.args.how (signed 2 c.args.z) c.args.t c.if-how.true)
+returns-then-how c =
+    let a = c.args in
+    c.clamp16.ensures ∙ ap (λ (t : ℤ). wrap (span 2) (clamped_sum a.how (signed 2 a.z) t)) (to_z-of_z c.ranges.t)
+    ∙ ap (wrap (span 2)) (is-clamped a.how (signed 2 a.z) a.t c.if-how.true)
 
 pub returns : goal.returns
-returns c = c.sum16.ensures ∙ ap (λ (t : ℤ). wrap (span 2) (summed c.args.how (signed 2 c.args.z) t)) (to_z-of_z c.ranges.t) ∙ ap (wrap (span 2)) (is-summed c.args.how (signed 2 c.args.z) c.args.t c.if-how.false)
+returns c =
+    let a = c.args in
+    c.sum16.ensures ∙ ap (λ (t : ℤ). wrap (span 2) (summed a.how (signed 2 a.z) t)) (to_z-of_z c.ranges.t)
+    ∙ ap (wrap (span 2)) (is-summed a.how (signed 2 a.z) a.t c.if-how.false)

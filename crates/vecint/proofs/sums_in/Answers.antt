@@ -13,12 +13,21 @@ returns-then-mode-eq1 c = sym (pick_false _ _ (ne_eqb c.args.mode 0 c.if-mode-eq
 
 pub returns-then-mode-eq5 : goal.returns-then-mode-eq5
 unfolding sums_in
-returns-then-mode-eq5 c = sym (pick_false _ _ (ne_eqb c.args.mode 0 c.if-mode-eq0.false) ∙ pick_false _ _ (ne_eqb c.args.mode 1 c.if-mode-eq1.false) ∙ pick_true _ _ (eq-eqb c.args.mode 5 c.if-mode-eq5.true))
+returns-then-mode-eq5 c =
+    let a = c.args in
+    sym (pick_false _ _ (ne_eqb a.mode 0 c.if-mode-eq0.false) ∙ pick_false _ _ (ne_eqb a.mode 1 c.if-mode-eq1.false)
+    ∙ pick_true _ _ (eq-eqb a.mode 5 c.if-mode-eq5.true))
 
 pub returns-then-mode-eq6 : goal.returns-then-mode-eq6
 unfolding sums_in
-returns-then-mode-eq6 c = sym (pick_false _ _ (ne_eqb c.args.mode 0 c.if-mode-eq0.false) ∙ pick_false _ _ (ne_eqb c.args.mode 1 c.if-mode-eq1.false) ∙ pick_false _ _ (ne_eqb c.args.mode 5 c.if-mode-eq5.false) ∙ pick_true _ _ (eq-eqb c.args.mode 6 c.if-mode-eq6.true))
+returns-then-mode-eq6 c =
+    let a = c.args in
+    sym (pick_false _ _ (ne_eqb a.mode 0 c.if-mode-eq0.false) ∙ pick_false _ _ (ne_eqb a.mode 1 c.if-mode-eq1.false)
+    ∙ pick_false _ _ (ne_eqb a.mode 5 c.if-mode-eq5.false) ∙ pick_true _ _ (eq-eqb a.mode 6 c.if-mode-eq6.true))
 
 pub returns : goal.returns
 unfolding sums_in
-returns c = sym (pick_false _ _ (ne_eqb c.args.mode 0 c.if-mode-eq0.false) ∙ pick_false _ _ (ne_eqb c.args.mode 1 c.if-mode-eq1.false) ∙ pick_false _ _ (ne_eqb c.args.mode 5 c.if-mode-eq5.false) ∙ pick_false _ _ (ne_eqb c.args.mode 6 c.if-mode-eq6.false))
+returns c =
+    let a = c.args in
+    sym (pick_false _ _ (ne_eqb a.mode 0 c.if-mode-eq0.false) ∙ pick_false _ _ (ne_eqb a.mode 1 c.if-mode-eq1.false)
+    ∙ pick_false _ _ (ne_eqb a.mode 5 c.if-mode-eq5.false) ∙ pick_false _ _ (ne_eqb a.mode 6 c.if-mode-eq6.false))

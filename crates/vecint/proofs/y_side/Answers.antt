@@ -2,4 +2,11 @@ use Rattle.std.proofs.Common.{eqb}
 use Rattle.vecint.proofs.y_side.Goals as goal
 
 pub returns : goal.returns
-returns c = λ i. record { wide = eqb (c.y_width.ensures.0 i) 2; sign = c.flag.ensures i; fixed = c.fixed_y.ensures i; lane = c.lane_y.ensures i; halved = eqb (c.x_width.ensures.0 i) 1 }
+returns c =
+    λ i. record {
+      wide = eqb (c.y_width.ensures.0 i) 2;
+      sign = c.flag.ensures i;
+      fixed = c.fixed_y.ensures i;
+      lane = c.lane_y.ensures i;
+      halved = eqb (c.x_width.ensures.0 i) 1;
+    }
