@@ -11,14 +11,16 @@ use lib.Seq.{take_at}
 use borrow.Author.Tests.{eq-eqb}
 use Rattle.number.specs.Bytes.{span, byte_at, number}
 use Rattle.number.proofs.Tests.{either, pick_true}
+use Rattle.std.specs.Prelude.{Result, Ok, Err}
+use Rattle.isa.specs.declared.NotDone.{NotDone}
+use Rattle.isa.specs.declared.NotDone.TheVariants as not_done
 use Rattle.isa.specs.declared.Answer.{Answer}
 use Rattle.isa.specs.declared.Answer.TheVariants.{Done, NoOp, Refused}
 use Rattle.isa.specs.State.{registers_of, count_of, last_count, state_of}
 use Rattle.isa.specs.Effect.{Effect, nothing, applied, bytes_on}
-use Rattle.isa.specs.Call.{Call, call, Instruction, effect_by, effect_of}
-use Rattle.isa.specs.Answers.{Row, rows_above, first_of, answer_by, answer_of, taken}
+use Rattle.isa.specs.Call.{Call, effect_of}
+use Rattle.isa.specs.Answers.{Row, rows_above, first_of, passed, answer_by, answer_of, taken}
 use Rattle.isa.specs.Step.{stepped}
-use Rattle.call.proofs.Rows.{is-other}
 use Rattle.isa.proofs.Rows.{AllRows, above_all}
 use Rattle.isa.proofs.Registers.{length-registers}
 use Rattle.isa.proofs.Applied.{length-applied, applied-nothing}
@@ -38,9 +40,6 @@ module _ (s t : List ℕ) (r : ℕ) where
   By e = (t ≡ cond (eqb (length s) 5120) (applied e s) s) × (r ≡ cond (eqb (length s) 5120) (bytes_on e) 0)
 
 -- another number does nothing
-pub effect_other : (i gen op : ℕ) → (i ≡ 14 → ⊥) → (i ≡ 18 → ⊥) → (i ≡ 19 → ⊥) → (i ≡ 11 → ⊥) → effect_of (call i gen op) ≡ nothing
-effect_other i gen op not14 not18 not19 not11 = ap (λ (k : Instruction). effect_by k gen op) (is-other i not18 not19 not11 not14)
-
 pub left_by_nothing : (s : List ℕ) → cond (eqb (length s) 5120) (applied nothing s) s ≡ s
 left_by_nothing s = either (λ (l : List ℕ). l ≡ s) (eqb (length s) 5120) (applied-nothing s) refl
 
@@ -61,74 +60,66 @@ done-as e s t u r n size h raise =
 
 -- ---- the answer
 
--- an answer with another count, where it is done
-abbrev counted : Answer → ℕ → Answer
-counted (Done m) n = Done n
-counted (NoOp r) n = NoOp r
-counted (Refused r) n = Refused r
+-- the answer to a call that is done, where the rows let it pass, with this count of bytes
+abbrev whole : Result Unit NotDone → ℕ → Answer
+whole (Ok t) n = Done n
+whole (Err (not_done.NoOp r)) n = NoOp r
+whole (Err (not_done.Refused r)) n = Refused r
 
 -- no row of the table says done
 abbrev Same : Answer → Type 0
-Same a = (n : ℕ) → counted a n ≡ a
+Same a = (n : ℕ) → whole (passed a) n ≡ a
 
 abbrev NoneDone : List Row → Type 0
 NoneDone = AllRows Same
 
-recounted : (rows : List Row) → NoneDone rows → (m n : ℕ) → counted (first_of rows (Done m)) n ≡ first_of rows (Done n)
-recounted [] h m n = refl
-recounted (r ∷ rows) h m n = picked r.applies (recounted rows h.1 m n)
+whole-passed : (rows : List Row) → NoneDone rows → (n : ℕ) → whole (passed (first_of rows (Done 0))) n ≡ first_of rows (Done n)
+whole-passed [] h n = refl
+whole-passed (r ∷ rows) h n = picked r.applies (whole-passed rows h.1 n)
   where
-    picked : (t : Bool) → counted (first_of rows (Done m)) n ≡ first_of rows (Done n)
-        → counted (cond t r.answer (first_of rows (Done m))) n ≡ cond t r.answer (first_of rows (Done n))
+    picked : (t : Bool) → whole (passed (first_of rows (Done 0))) n ≡ first_of rows (Done n)
+        → whole (passed (cond t r.answer (first_of rows (Done 0)))) n ≡ cond t r.answer (first_of rows (Done n))
     picked true rest = h.0 n
     picked false rest = rest
 
-counted-taken : (b : Answer) (n : ℕ) → taken (counted b n) ≡ taken b
-counted-taken (Done m) n = refl
-counted-taken (NoOp r) n = refl
-counted-taken (Refused r) n = refl
+-- ---- the step: p is what the rows say before the call is done, for the count that was read
 
--- ---- the step: a is what the table gives with 0 bytes, for the count that was read; b is what is made of it
-
-module _ (i gen op serial : ℕ) (s : List ℕ) (count : ℕ) (read : count ≡ count_of s) (a b : Answer)
-    (ea : a ≡ first_of (rows_above (length s) count serial (call i gen op)) (Done 0)) (eb : a ≡ b) where
-  abbrev c : Call
-  c = call i gen op
-
+module _ (c : Call) (serial : ℕ) (s : List ℕ) {count : ℕ} (read : count ≡ count_of s) {p : Result Unit NotDone}
+    (told : p ≡ passed (first_of (rows_above (length s) count serial c) (Done 0))) where
   abbrev bytes : ℕ
   bytes = bytes_on (effect_of c)
 
-  answer-is : answer_of s c serial ≡ counted b bytes
+  answer-is : answer_of s c serial ≡ whole p bytes
   unfolding answer_by
   answer-is =
       let none : NoneDone (rows_above (length s) count serial c) =
       above_all Same (λ n. refl) (λ n. refl) (λ n. refl) (λ n. refl) (λ n. refl) (λ n. refl) (λ n. refl) (λ n. refl) (λ n. refl) (length s) count serial c
       in
       ap (λ (k : ℕ). first_of (rows_above (length s) k serial c) (Done bytes)) (sym read)
-      ∙ sym (recounted (rows_above (length s) count serial c) none 0 bytes)
-      ∙ ap (λ (x : Answer). counted x bytes) (sym ea ∙ eb)
+      ∙ sym (whole-passed (rows_above (length s) count serial c) none bytes)
+      ∙ ap (λ (x : Result Unit NotDone). whole x bytes) (sym told)
 
   -- a step that is taken has a state of the right length, below its last count
-  pub step-needs : taken b ≡ true → (length s ≡ 5128) × (count < last_count)
-  step-needs t =
-      let had = met c serial s (ap taken answer-is ∙ counted-taken b bytes ∙ t) in
+  pub step-needs : (q : Result Unit NotDone) → p ≡ q → taken (whole q bytes) ≡ true → (length s ≡ 5128) × (count < last_count)
+  step-needs q e t =
+      let had = met c serial s (ap taken (answer-is ∙ ap (λ (x : Result Unit NotDone). whole x bytes) e) ∙ t) in
       (had.size, subst (λ (k : ℕ). k < last_count) (sym read) had.room)
 
-  pub step-done : (m r : ℕ) (t : List ℕ) → b ≡ Done m → t ≡ state_of (applied (effect_of c) (registers_of s)) (count + 1) → r ≡ bytes
+  pub step-done : (r : ℕ) (t : List ℕ) → p ≡ Ok tt → t ≡ state_of (applied (effect_of c) (registers_of s)) (count + 1) → r ≡ bytes
       → (t ≡ stepped c serial s) × (Done r ≡ answer_of s c serial)
-  step-done m r t e et er =
-      let is : answer_of s c serial ≡ Done bytes = answer-is ∙ ap (λ (x : Answer). counted x bytes) e in (
+  step-done r t e et er =
+      let is : answer_of s c serial ≡ Done bytes = answer-is ∙ ap (λ (x : Result Unit NotDone). whole x bytes) e in (
         et ∙ ap (λ (k : ℕ). state_of (applied (effect_of c) (registers_of s)) (k + 1)) read ∙ sym (stepped-as c serial s (Done bytes) is),
         ap Done er ∙ sym is,
       )
 
-  pub step-no-op : (r : _) (t : List ℕ) → b ≡ NoOp r → t ≡ state_of (registers_of s) (count + 1)
+  pub step-no-op : (r : _) (t : List ℕ) → p ≡ Err (not_done.NoOp r) → t ≡ state_of (registers_of s) (count + 1)
       → (t ≡ stepped c serial s) × (NoOp r ≡ answer_of s c serial)
   step-no-op r t e et =
-      let is : answer_of s c serial ≡ NoOp r = answer-is ∙ ap (λ (x : Answer). counted x bytes) e in
+      let is : answer_of s c serial ≡ NoOp r = answer-is ∙ ap (λ (x : Result Unit NotDone). whole x bytes) e in
       (et ∙ ap (λ (k : ℕ). state_of (registers_of s) (k + 1)) read ∙ sym (stepped-as c serial s (NoOp r) is), sym is)
 
-  pub step-refused : (r : _) → b ≡ Refused r → (s ≡ stepped c serial s) × (Refused r ≡ answer_of s c serial)
+  pub step-refused : (r : _) → p ≡ Err (not_done.Refused r) → (s ≡ stepped c serial s) × (Refused r ≡ answer_of s c serial)
   step-refused r e =
-      let is : answer_of s c serial ≡ Refused r = answer-is ∙ ap (λ (x : Answer). counted x bytes) e in
+      let is : answer_of s c serial ≡ Refused r = answer-is ∙ ap (λ (x : Result Unit NotDone). whole x bytes) e in
       (sym (stepped-as c serial s (Refused r) is), sym is)

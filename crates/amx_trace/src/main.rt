@@ -28,7 +28,7 @@ fn main(rt: HostRuntime) {
     match rt.arg(1, &mut path) {
         Ok(0) | Err(FillError::NotPresent) => say_usage(&rt),
         Ok(n) => {
-            disk::print_file(&rt, &path[..n]);
+            let _ = disk::print_file(&rt, &path[..n]);
         }
         Err(FillError::TooLong) => say_too_long(&rt, &path),
     }

@@ -10,8 +10,7 @@ use Rattle.number.specs.Bytes.{byte_at, number}
 use Rattle.isa.specs.State.{state_length}
 use Rattle.file.specs.declared.FileRefusal.{FileRefusal}
 use Rattle.file.specs.declared.FileRefusal.TheVariants.{Contents}
-use Rattle.file.specs.declared.Opened.{Opened}
-use Rattle.file.specs.declared.Opened.TheVariants.{Steps, Refused}
+use Rattle.std.specs.Prelude.{Result, Ok, Err}
 use Rattle.file.specs.File.{bytes_from, has_checkpoint, most_steps, start_of, head_as, closed_as, loaded_start, loaded_saved}
 use Rattle.file.proofs.Contents.{length_two, length_three}
 use Rattle.file.proofs.States.{load-whole}
@@ -22,14 +21,14 @@ use Rattle.disk.specs.Got.{HeadOf, Looked, CutShort}
 use Rattle.disk.specs.Shown.{Alone}
 
 -- a head that is refused
-pub alone-head : (head : List ℕ) (opened : Opened) (r : FileRefusal) → opened ≡ head_as head → opened ≡ Refused r → Alone head r
+pub alone-head : (head : List ℕ) (opened : Result ℕ FileRefusal) (r : FileRefusal) → opened ≡ head_as head → opened ≡ Err r → Alone head r
 alone-head head opened r e f = said-head head r (sym e ∙ f)
 
 -- a head that is accepted
-pub opened_most : (head : List ℕ) (opened : Opened) (n : ℕ) → opened ≡ head_as head → opened ≡ Steps n → n ≤ most_steps
+pub opened_most : (head : List ℕ) (opened : Result ℕ FileRefusal) (n : ℕ) → opened ≡ head_as head → opened ≡ Ok n → n ≤ most_steps
 opened_most head opened n e f = head-most head n (sym e ∙ f)
 
-module _ (head : List ℕ) (n : ℕ) (opened : head_as head ≡ Steps n) (read : HeadOf head) where
+module _ (head : List ℕ) (n : ℕ) (opened : head_as head ≡ Ok n) (read : HeadOf head) where
   -- ---- two sections
 
   module _ (plain : has_checkpoint head ≡ false) where
@@ -50,11 +49,11 @@ module _ (head : List ℕ) (n : ℕ) (opened : head_as head ≡ Steps n) (read :
     alone-cut cut = said-cut head n opened three size-three cut.bytes cut.less
 
     module _ (last : List ℕ) (clear : Bool) (looked : Looked n clear) where
-      pub alone-closed : (closed : Opened) (r : FileRefusal) → closed ≡ closed_as last n clear → closed ≡ Refused r → Alone head r
+      pub alone-closed : (closed : Result ℕ FileRefusal) (r : FileRefusal) → closed ≡ closed_as last n clear → closed ≡ Err r → Alone head r
       alone-closed closed r e f =
           said-closed head n opened three size-three looked.bytes last looked.whole clear looked.told r (sym e ∙ f)
 
-      pub closed-told : (closed : Opened) (m : ℕ) → closed ≡ closed_as last n clear → closed ≡ Steps m
+      pub closed-told : (closed : Result ℕ FileRefusal) (m : ℕ) → closed ≡ closed_as last n clear → closed ≡ Ok m
           → Told head n (number 4 (byte_at last) 0) (bytes_from last 4 state_length) 0 × (number 4 (byte_at last) 0 ≤ n)
       closed-told closed m e f =
           let right = sym e ∙ f in (

@@ -1,7 +1,7 @@
 -- Steps that are read and looked at, a run after another.
 -- Assumes nothing.
-use mathlib.Core.Path.{◌≡◌, refl, sym, ap, ◌∙◌}
-use mathlib.Core.Bool.{Bool, true, false, not, cond, ◌&&◌}
+use mathlib.Core.Path.{◌≡◌, refl, sym, ap, subst, ◌∙◌}
+use mathlib.Core.Bool.{Bool, true, false, ◌&&◌}
 use mathlib.Core.List.{List, [], ◌++◌}
 use mathlib.Core.Logic.{⊎_elim}
 use Prim.Native.Nat.{ℕ, zero, suc, ◌+◌, ◌*◌, ◌≤◌, ◌<◌}
@@ -11,13 +11,14 @@ use borrow.Author.Tests.{eq-eqb, ne_eqb}
 use lib.Dec.{eqb}
 use lib.ListN.{length, length-append, get_or-append}
 use lib.Seq.{get_or-append-add}
+use Rattle.std.specs.Prelude.{Option, Some, None}
 use Rattle.number.specs.Bytes.{byte_at}
 use Rattle.number.proofs.Tests.{true_false, lt_or_le, two}
 use Rattle.file.specs.File.{run_steps, run_of, step_at, padding_clear, paddings_clear, sound_in}
 use Rattle.file.proofs.Sound.{sound-there, sound-clear, sound-before, sound-is, padding-moved}
 use Rattle.file.proofs.Paddings.{all-at, all_true, paddings-none}
 use Rattle.file.proofs.Records.{run-few, run-most}
-use Rattle.disk.specs.Got.{Looked}
+use Rattle.disk.specs.Got.{Looked, CutShort, Seen}
 
 -- ---- one run
 
@@ -52,13 +53,6 @@ and_assoc : (a b d : Bool) → (a && b) && d ≡ a && (b && d)
 and_assoc true b d = refl
 and_assoc false b d = refl
 
--- as the code has it: what was clear is so no more
-pub clear-still : (clear sound : Bool) → cond (not sound) false clear ≡ clear && sound
-clear-still true true = refl
-clear-still true false = refl
-clear-still false true = refl
-clear-still false false = refl
-
 module _ (xs ys : List ℕ) (i : ℕ) (whole : length xs ≡ 16 * i) where
   padding-first : (k : ℕ) → k < i → padding_clear (xs ++ ys) k ≡ padding_clear xs k
   padding-first k h = padding-moved (xs ++ ys) xs k k (λ j l. get_or-append xs ys 0 (step_at k + j) (omega (arith, h, l, whole)))
@@ -87,6 +81,13 @@ module _ (xs ys : List ℕ) (i : ℕ) (whole : length xs ≡ 16 * i) where
       ap (paddings_clear (xs ++ ys)) (add-suc i m)
       ∙ (λ t. before t && last t)
       ∙ and_assoc (paddings_clear xs i) (paddings_clear ys m) (padding_clear ys m)
+
+-- what was seen of a run that is not cut short
+pub seen-some : (seen : Option Bool) (clear : Bool) (n : ℕ) → seen ≡ Some clear → Seen seen n → Looked n clear
+seen-some seen clear n e w = subst (λ (x : Option Bool). Seen x n) e w
+
+pub seen-none : (seen : Option Bool) (n : ℕ) → seen ≡ None → Seen seen n → CutShort n
+seen-none seen n e w = subst (λ (x : Option Bool). Seen x n) e w
 
 pub looked_none : Looked 0 true
 looked_none = record { bytes = []; whole = refl; told = sym (paddings-none []) }

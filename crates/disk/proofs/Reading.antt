@@ -12,18 +12,12 @@ use Rattle.number.specs.Bytes.{byte_at}
 use Rattle.number.proofs.Tests.{true_false}
 use Rattle.file.specs.File.{has_checkpoint}
 use Rattle.trace.proofs.Begins.{has-alike}
-use Rattle.disk.specs.Got.{Within, HeadRead}
-use Rattle.disk.specs.declared.Got.{Got}
-use Rattle.disk.specs.declared.Got.TheVariants.{Bytes}
-
-pub within : (got : Got) (n size : ℕ) → got ≡ Bytes n → Within got size → n ≤ size
-within got n size e w = subst (λ (g : Got). Within g size) e w
+use Rattle.disk.specs.Got.{HeadOf}
 
 -- the bytes that came lie in the buffer, behind the n that were there
-pub come : (buffer part : List ℕ) (n more : ℕ) (came : Got) → came ≡ Bytes more → n ≤ length buffer → length part ≡ length (mid_of n (length buffer - n) buffer)
-    → Within came (length part) → n + more ≤ length buffer
-come buffer part n more came e h l w =
-    omega (arith, within came more (length part) e w, h, l, length-take (length buffer - n) (drop n buffer), length-drop n buffer)
+pub come : (buffer part : List ℕ) (n more : ℕ) → n ≤ length buffer → length part ≡ length (mid_of n (length buffer - n) buffer)
+    → more ≤ length part → n + more ≤ length buffer
+come buffer part n more h l w = omega (arith, w, h, l, length-take (length buffer - n) (drop n buffer), length-drop n buffer)
 
 -- what came of a part that is lent as a whole is no longer than the part
 pub part_most : (part : List ℕ) (size : ℕ) (part₀ : List ℕ) {k : ℕ} → length part ≡ length part₀ → size ≤ length part → length part₀ ≡ k
@@ -33,7 +27,7 @@ part_most part size part₀ e h l = omega (arith, e, h, l, length-take size part
 -- ---- a head
 
 -- with or without a checkpoint a head may have so many bytes
-pub head_short : (buffer : List ℕ) (n : ℕ) → length buffer ≡ 5160 → n ≤ 5148 → HeadRead (Bytes n) buffer
+pub head_short : (buffer : List ℕ) (n : ℕ) → length buffer ≡ 5160 → n ≤ 5148 → (n ≤ length buffer) × HeadOf (take n buffer)
 head_short buffer n size h =
     let least : n ≤ length buffer = omega (arith, size, h) in
     let front = length-take-le n buffer least in
@@ -54,11 +48,12 @@ module _ (k : ℕ) (long : 28 ≤ k) (buffer part : List ℕ) (size : k ≤ leng
       long
 
 -- more where there is a checkpoint
-pub head_long : (buffer part : List ℕ) (more : ℕ) (came : Got) → length buffer ≡ 5160 → has_checkpoint (take 5148 buffer) ≡ true → came ≡ Bytes more
-    → length part ≡ length (mid_of 5148 (length buffer - 5148) buffer) → Within came (length part)
-    → HeadRead (Bytes (5148 + more)) (put_mid 5148 (length buffer - 5148) buffer part)
-head_long buffer part more came size has e l w =
-    let ahead = come buffer part 5148 more came e (omega (arith, size)) l w in
+pub head_long : (buffer part : List ℕ) (more : ℕ) → length buffer ≡ 5160 → has_checkpoint (take 5148 buffer) ≡ true
+    → length part ≡ length (mid_of 5148 (length buffer - 5148) buffer) → more ≤ length part
+    → (5148 + more ≤ length (put_mid 5148 (length buffer - 5148) buffer part))
+    × HeadOf (take (5148 + more) (put_mid 5148 (length buffer - 5148) buffer part))
+head_long buffer part more size has l w =
+    let ahead = come buffer part 5148 more (omega (arith, size)) l w in
     let file : List ℕ = put_mid 5148 (length buffer - 5148) buffer part in
     let same : length file ≡ length buffer = same_len_mid 5148 (length buffer - 5148) buffer part l in
     let least : 5148 + more ≤ length file = omega (arith, same, ahead) in (

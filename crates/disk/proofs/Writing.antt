@@ -15,18 +15,17 @@ use Rattle.file.specs.File.{file_refusal_number, bytes_from, contents_length, st
 use Rattle.file.proofs.Sound.{sound-most}
 use Rattle.file.proofs.Parts.{part-between}
 use Rattle.text.specs.Lines.{refused_line}
-use Rattle.trace.specs.declared.Ran.{Ran}
-use Rattle.trace.specs.declared.Ran.TheVariants.{On, Stopped}
+use Rattle.std.specs.declared.ops.ControlFlow.{ControlFlow}
+use Rattle.std.specs.declared.ops.ControlFlow.TheVariants.{Continue, Break}
 use Rattle.trace.specs.Trace.{end_text, text_read}
 use Rattle.trace.specs.Runs.{run_text, ran_to, ran_as, room_length}
 use Rattle.trace.specs.Reading.{Follows, Says, Told}
 use Rattle.trace.proofs.Short.{run-fits_in, refused-short, fits}
 use Rattle.trace.proofs.Room.{sound-room}
 use Rattle.trace.proofs.Told.{says-run, told-run, said-stop, said-end}
-use Rattle.disk.specs.declared.Shown.TheVariants.{Printed, Unreadable, Unwritable}
-use Rattle.disk.specs.declared.Turn.{Turn}
-use Rattle.disk.specs.declared.Turn.TheVariants as turn
-use Rattle.disk.specs.declared.Turn.TheVariants.{Over}
+use Rattle.std.specs.Prelude.{Result, Ok, Err}
+use Rattle.disk.specs.declared.Failure.{Failure}
+use Rattle.disk.specs.declared.Failure.TheVariants.{Unreadable, Unwritable}
 use Rattle.disk.specs.Shown.{IsPrefixLen, Ended, Alone, text_size, RunSays, Wrote, Turned}
 
 -- ---- a text at the start of a buffer
@@ -96,43 +95,33 @@ module _ (head : List ℕ) (n : ℕ) (s : List ℕ) (at : ℕ) (told : Told head
 
 -- ---- a run
 
-is_on : Ran → Bool
-is_on (On r) = true
-is_on (Stopped r) = false
-
-size_of : Ran → ℕ
-size_of (On r) = r
-size_of (Stopped r) = r
-
 -- what a run's answer says
 module _ (m i : ℕ) (s part : List ℕ) where
   abbrev size : ℕ
   size = length (run_text m i s part)
 
-  stopped-is : sound_in part m < m → ran_as m i s part ≡ Stopped size
-  stopped-is h = pick_true (Stopped size) (On size) (lt-ltb (sound_in part m) m h)
+  stopped-is : sound_in part m < m → ran_as m i s part ≡ Break size
+  stopped-is h = pick_true (Break size) (Continue size) (lt-ltb (sound_in part m) m h)
 
-  on-is : sound_in part m ≡ m → ran_as m i s part ≡ On size
-  on-is e = pick_false (Stopped size) (On size) (le-ltb (sound_in part m) m (omega (arith, e)))
+  on-is : sound_in part m ≡ m → ran_as m i s part ≡ Continue size
+  on-is e = pick_false (Break size) (Continue size) (le-ltb (sound_in part m) m (omega (arith, e)))
 
-  pub answer-on : (r : ℕ) → On r ≡ ran_as m i s part → (sound_in part m ≡ m) × (r ≡ size)
-  unfolding is_on size_of
+  pub answer-on : (r : ℕ) → Continue r ≡ ran_as m i s part → (sound_in part m ≡ m) × (r ≡ size)
   answer-on r e =
       ⊎_elim
-      (λ (h : sound_in part m < m). absurd (true_false (ap is_on (e ∙ stopped-is h))))
+      (λ (h : sound_in part m < m). cc (stopped-is h))
       (λ (h : m ≤ sound_in part m).
       let all : sound_in part m ≡ m = omega (arith, h, sound-most part m) in
-      (all, ap size_of (e ∙ on-is all)))
+      (all, cc (on-is all)))
       (lt_or_le (sound_in part m) m)
 
-  pub answer-stopped : (r : ℕ) → Stopped r ≡ ran_as m i s part → (sound_in part m < m) × (r ≡ size)
-  unfolding is_on size_of
+  pub answer-stopped : (r : ℕ) → Break r ≡ ran_as m i s part → (sound_in part m < m) × (r ≡ size)
   answer-stopped r e =
       ⊎_elim
-      (λ (h : sound_in part m < m). (h, ap size_of (e ∙ stopped-is h)))
+      (λ (h : sound_in part m < m). (h, cc (stopped-is h)))
       (λ (h : m ≤ sound_in part m).
       let all : sound_in part m ≡ m = omega (arith, h, sound-most part m) in
-      absurd (true_false (sym (ap is_on (e ∙ on-is all)))))
+      cc (on-is all))
       (lt_or_le (sound_in part m) m)
 
 module _ (head : List ℕ) (n i : ℕ) (s : List ℕ) (at : ℕ) (told : Told head n i s at) (less : i < n) (small : n < 2 ^ 32) (part : List ℕ)
@@ -156,23 +145,24 @@ module _ (head : List ℕ) (n i : ℕ) (s : List ℕ) (at : ℕ) (told : Told he
   stopped h = said-stop head n i s at told m part inside got h
 
   -- the text that is to be written
-  says_of : (r : Ran) → r ≡ ran_as m i s part → Says head at lines × (text_size r ≡ length lines)
-  says_of (On size) e =
+  says_of : (r : ControlFlow ℕ ℕ) → r ≡ ran_as m i s part → Says head at lines × (text_size r ≡ length lines)
+  says_of (Continue size) e =
       let on = answer-on m i s part size e in
       (says-run head n i s at told m part inside (whole on.0) on.0, on.1)
-  says_of (Stopped size) e =
+  says_of (Break size) e =
       let stop = answer-stopped m i s part size e in
       ((stopped stop.0).0, stop.1)
 
-  pub run-says : (r : Ran) (out out' : List ℕ) → room_length ≤ length out → r ≡ ran_as m i s part → out' ≡ sets out 0 lines → RunSays r head at out'
+  pub run-says : (r : ControlFlow ℕ ℕ) (out out' : List ℕ) → room_length ≤ length out → r ≡ ran_as m i s part → out' ≡ sets out 0 lines → RunSays r head at out'
   run-says r out out' room e stored =
       let says = says_of r e in
       let lent = held out out' lines (text_size r) room short stored says.1 in
       (says_held head out' lines at (text_size r) lent says.0, lent.1, omega (arith, says.1, short))
 
   -- and what holds when it is written
-  pub run-turned : (r : Ran) (s' : List ℕ) (turn : Turn) → r ≡ ran_as m i s part → s' ≡ ran_to m s part → Wrote r at turn → Turned turn head n (i + m) s' at
-  run-turned (On size) s' (turn.On next) e state w =
+  pub run-turned : (r : ControlFlow ℕ ℕ) (s' : List ℕ) (turn : Result (ControlFlow ℕ ℕ) Failure) → r ≡ ran_as m i s part → s' ≡ ran_to m s part
+      → Wrote r at turn → Turned turn head n (i + m) s' at
+  run-turned (Continue size) s' (Ok (Continue next)) e state w =
       let on = answer-on m i s part size e in
       let place : at + length lines ≡ next = omega (arith, on.1, w) in (
         λ rest.
@@ -181,12 +171,12 @@ module _ (head : List ℕ) (n i : ℕ) (s : List ℕ) (at : ℕ) (told : Told he
             (told-run head n i s at told m part inside (whole on.0) on.0 rest)),
         omega (arith, on.1, w, short),
       )
-  run-turned (On size) s' (Over Unwritable) e state w = tt
-  run-turned (On size) s' (Over (Printed all)) e state w = absurd w
-  run-turned (On size) s' (Over Unreadable) e state w = absurd w
-  run-turned (Stopped size) s' (turn.On next) e state w = absurd w
-  run-turned (Stopped size) s' (Over Unwritable) e state w = tt
-  run-turned (Stopped size) s' (Over (Printed all)) e state w =
+  run-turned (Continue size) s' (Ok (Break all)) e state w = absurd w
+  run-turned (Break size) s' (Ok (Continue next)) e state w = absurd w
+  run-turned (Break size) s' (Ok (Break all)) e state w =
       let stop = answer-stopped m i s part size e in
       subst Ended (sym w) (ended_at head lines at size stop.1 (stopped stop.0).1)
-  run-turned (Stopped size) s' (Over Unreadable) e state w = absurd w
+  run-turned (Continue size) s' (Err (Unwritable x)) e state w = tt
+  run-turned (Continue size) s' (Err (Unreadable x)) e state w = absurd w
+  run-turned (Break size) s' (Err (Unwritable x)) e state w = tt
+  run-turned (Break size) s' (Err (Unreadable x)) e state w = absurd w

@@ -14,49 +14,6 @@ use Rattle.isa.specs.State.{register_bytes}
 use Rattle.file.specs.File.{has_checkpoint, checkpoint_length, contents_length, steps_base, step_bytes, most_steps, step_count}
 use Rattle.file.specs.File.{steps_end, consumed_in, entry_is, third_is, two_sections, sections_right, checkpoint_right, table_right, contents_right}
 
--- n is the number m that a file holds: whether m is k, by n
-pub same : {n m : ℕ} (k : ℕ) → n ≡ m → n ≡ k → eqb m k ≡ true
-same {n} {m} k e f = eq-eqb m k (sym e ∙ f)
-
-pub differ : {n m : ℕ} (k : ℕ) → n ≡ m → (n ≡ k → ⊥) → eqb m k ≡ false
-differ {n} {m} k e f = ne_eqb m k (λ g. f (e ∙ g))
-
--- ---- an entry
-
-module _ (file : List ℕ) (p kind offset size : ℕ) where
-  abbrev kind_is : Bool
-  kind_is = eqb (number 2 (byte_at file) p) kind
-
-  abbrev zero_is : Bool
-  zero_is = eqb (number 2 (byte_at file) (p + 2)) 0
-
-  abbrev offset_is : Bool
-  offset_is = eqb (number 4 (byte_at file) (p + 4)) offset
-
-  abbrev size_is : Bool
-  size_is = eqb (number 4 (byte_at file) (p + 8)) size
-
-  pub other-kind : kind_is ≡ false → false ≡ entry_is file p kind offset size
-  unfolding entry_is
-  other-kind a = sym (λ t. a t && zero_is && offset_is && size_is)
-
-  pub not-zero : kind_is ≡ true → zero_is ≡ false → false ≡ entry_is file p kind offset size
-  unfolding entry_is
-  not-zero a b = sym (λ t. a t && b t && offset_is && size_is)
-
-  pub other_offset : kind_is ≡ true → zero_is ≡ true → offset_is ≡ false → false ≡ entry_is file p kind offset size
-  unfolding entry_is
-  other_offset a b d = sym (λ t. a t && b t && d t && size_is)
-
-  pub by_size : kind_is ≡ true → zero_is ≡ true → offset_is ≡ true → size_is ≡ entry_is file p kind offset size
-  unfolding entry_is
-  by_size a b d = sym (λ t. a t && b t && d t && size_is)
-
--- what code finds of an entry whose numbers it has
-pub entry_by : (file : List ℕ) (p kind : ℕ) {o o' s s' : ℕ} {r b : Bool} → o ≡ o' → s ≡ s' → r ≡ entry_is file p kind o s → r ≡ b
-    → entry_is file p kind o' s' ≡ b
-entry_by file p kind e f g h = sym (λ i. entry_is file p kind (e i) (f i)) ∙ sym g ∙ h
-
 -- ---- where things lie
 
 module _ (file : List ℕ) where
@@ -106,14 +63,6 @@ module _ (file : List ℕ) where
 
   abbrev behind : Bool
   behind = cond (has_checkpoint file) (checkpoint_right file && closed) (counted && ended)
-
-  pub too_many : few ≡ false → false ≡ sections_right file
-  unfolding sections_right
-  too_many a = sym (λ t. a t && first && second)
-
-  pub other-first : few ≡ true → first ≡ false → false ≡ sections_right file
-  unfolding sections_right
-  other-first a b = sym (λ t. a t && b t && second)
 
   pub by-second : few ≡ true → first ≡ true → second ≡ sections_right file
   unfolding sections_right

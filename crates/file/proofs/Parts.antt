@@ -1,12 +1,13 @@
 -- Bytes from a position on: as a part of a slice, stored one after another, and stored over a whole list.
 -- Assumes nothing.
 use mathlib.Core.Path.{◌≡◌, refl, sym, ap, ◌∙◌}
-use mathlib.Core.List.{List, [], ◌∷◌, ◌++◌, append-nil}
+use mathlib.Core.List.{List, [], ◌∷◌, ◌++◌, append-nil, append_assoc}
 use Prim.Native.Nat.{ℕ, ◌+◌, ◌-◌, ◌≤◌, ◌<◌}
 use native.Mathlib.Nat.{zero-add, le_refl}
 use native.Mathlib.Omega.{arith}
 use lib.ListN.{length, set, take, drop, length-drop, drop_of_length-le}
-use lib.Seq.{sets, sets-eq, take_all, get_or-take, get_or-drop, length-take-le}
+use lib.Seq.{sets, sets-eq, drop-drop, take_all, get_or-take, get_or-drop, length-take-le}
+use borrow.Rule.Slice.PartMut.{put_mid}
 use Rattle.number.specs.Bytes.{byte_at, table}
 use Rattle.number.proofs.Bytes.{length-table, get_d-table, table_more}
 use Rattle.number.proofs.Fill.{fill-all}
@@ -32,19 +33,12 @@ module _ (s : List ℕ) where
       let size : e - a ≡ n = omega (arith, f) in
       ap (λ (k : ℕ). take k (drop a s)) size ∙ part-from a n (omega (arith, f, h))
 
-  pub whole_from : (n : ℕ) → length s ≡ n → bytes_from s 0 n ≡ s
-  whole_from n e = sym (part-from 0 n (omega (arith, e))) ∙ take_all n s (omega (arith, e))
-
-  -- no byte is stored yet, and one byte more
-  pub copy-none : (out : List ℕ) (p at : ℕ) → out ≡ sets out at (bytes_from s p 0)
-  unfolding table
-  copy-none out p at = refl
-
-  pub copy_more : (out₀ out out' : List ℕ) (p at n b : ℕ) → out ≡ sets out₀ at (bytes_from s p n) → b ≡ byte_at s (p + n)
-      → out' ≡ set out (at + n) b → out' ≡ sets out₀ at (bytes_from s p (n + 1))
-  copy_more out₀ out out' p at n b e byte f =
-      sets-joined out₀ out out' at n (bytes_from s p n) (byte_at s (p + n) ∷ []) (length_from p n) e (f ∙ ap (set out (at + n)) byte)
-      ∙ ap (sets out₀ at) (sym (table_more (λ k. byte_at s (p + k)) n))
+-- bytes written to a part of a list
+pub put-sets : (l vs : List ℕ) (a k : ℕ) → length vs ≡ k → a + k ≤ length l → put_mid a k l vs ≡ sets l a vs
+put-sets l vs a k e h =
+    let rest : drop k (drop a l) ≡ drop (a + length vs) l = drop-drop k a l ∙ ap (λ (n : ℕ). drop (a + n) l) (sym e) in
+    ap (λ (r : List ℕ). take a l ++ (vs ++ r)) rest ∙ sym (append_assoc (take a l) vs (drop (a + length vs) l))
+    ∙ sym (sets-eq vs l a (omega (arith, e, h)))
 
 -- bytes stored over a whole list
 pub sets-whole : (vs l : List ℕ) → length vs ≡ length l → sets l 0 vs ≡ vs

@@ -14,30 +14,20 @@ use Rattle.number.specs.Bytes.{byte_at, number, table}
 use Rattle.number.proofs.Tests.{pick_true, pick_false, lt_or_le}
 use Rattle.number.proofs.Bytes.{length-table, table-add, table_same, number-moved}
 use Rattle.isa.specs.Call.{Call, call}
-use Rattle.file.specs.declared.Read.TheVariants as read
-use Rattle.file.specs.File.{bytes_from, run_steps, run_of, records_in, call_at, calls, cursor, record_of, read_as}
+use Rattle.std.specs.Prelude.{Some, None}
+use Rattle.file.specs.File.{bytes_from, run_steps, run_of, records_in, call_at, calls, cursor, read_as}
 use Rattle.file.proofs.Parts.{byte-from, part-between}
 
 -- ---- a call as code holds it
 
-pub record_same : {i g op : ℕ} {c : Call} → i ≡ c.instruction → g ≡ c.generation → op ≡ c.operand → record_of (call i g op) ≡ record_of c
-record_same a b d = λ t. record_of (call (a t) (b t) (d t))
+pub record_same : {i g op : ℕ} {c : Call} → i ≡ c.instruction → g ≡ c.generation → op ≡ c.operand → call i g op ≡ c
+record_same a b d = λ t. call (a t) (b t) (d t)
 
 -- ---- the cursor
 
 module _ (steps : List ℕ) (i n : ℕ) where
-  pub read-end : n ≤ i → read.End ≡ read_as steps (cursor i n)
-  read-end h =
-      let past : ltb i n && ltb i run_steps ≡ false = (λ t. le-ltb i n h t && ltb i run_steps) in
-      sym (pick_false _ _ past)
-
-  pub read_past : i < n → run_steps ≤ i → read.End ≡ read_as steps (cursor i n)
-  read_past h l =
-      let past : ltb i n && ltb i run_steps ≡ false = (λ t. lt-ltb i n h t && le-ltb i run_steps l t) in
-      sym (pick_false _ _ past)
-
   -- a cursor at step i gives the call of step i, and the cursor at the next one
-  pub read_step : i < n → i < run_steps → read.Record (record_of (call_at steps i)) (cursor (i + 1) n) ≡ read_as steps (cursor i n)
+  pub read_step : i < n → i < run_steps → Some (call_at steps i, cursor (i + 1) n) ≡ read_as steps (cursor i n)
   read_step h l =
       let there : ltb i n && ltb i run_steps ≡ true = (λ t. lt-ltb i n h t && lt-ltb i run_steps l t) in
       sym (pick_true _ _ there)

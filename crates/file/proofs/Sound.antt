@@ -26,24 +26,11 @@ module _ (steps : List ℕ) (i : ℕ) where
   pub sound-there : step_at (suc i) ≤ length steps → padding_clear steps i ≡ true → sound steps i ≡ true
   sound-there h e = λ t. le-leb (step_at (suc i)) (length steps) h t && e t
 
-  pub sound-cut : length steps < step_at (suc i) → sound steps i ≡ false
-  sound-cut h = λ t. lt-leb (step_at (suc i)) (length steps) h t && padding_clear steps i
-
   pub sound-whole : sound steps i ≡ true → step_at (suc i) ≤ length steps
   sound-whole e = leb-true (step_at (suc i)) (length steps) (and_left whole (padding_clear steps i) e)
 
   pub sound-clear : sound steps i ≡ true → padding_clear steps i ≡ true
   sound-clear e = and_right whole (padding_clear steps i) e
-
-  pub sound-set : padding_clear steps i ≡ false → sound steps i ≡ false
-  sound-set f = is_false (sound steps i) (λ t. true_false (sym (sound-clear t) ∙ f))
-
-  -- and why one is not
-  pub fault-cut : length steps < step_at (suc i) → Contents ≡ fault_at steps i
-  fault-cut h = sym (pick_true _ _ (lt-ltb (length steps) (step_at (suc i)) h))
-
-  pub fault-set : step_at (suc i) ≤ length steps → Padding ≡ fault_at steps i
-  fault-set h = sym (pick_false _ _ (le-ltb (length steps) (step_at (suc i)) h))
 
 -- ---- the steps before the first that is not sound
 

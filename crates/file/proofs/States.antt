@@ -5,10 +5,12 @@ use mathlib.Core.Bool.{Bool, true, false, cond, ◌&&◌}
 use mathlib.Core.List.{List, ◌++◌}
 use Prim.Native.Nat.{ℕ, ◌+◌, ◌^◌, ◌≤◌, ◌<◌}
 use native.Mathlib.Nat.{zero-add}
+use native.Mathlib.Omega.{arith}
 use borrow.Author.Tests.{lt-ltb, le-ltb, eq-eqb, ne_eqb, le-leb, lt-leb}
 use lib.Dec.{eqb, leb}
-use lib.ListN.{length}
-use lib.Seq.{sets}
+use lib.ListN.{length, take, drop}
+use lib.Seq.{sets, length-sets, length-take-le}
+use borrow.Rule.Slice.PartMut.{put_mid}
 use Rattle.number.specs.Bytes.{bytes_of, byte_of}
 use Rattle.number.proofs.Tests.{pick_true, pick_false}
 use Rattle.number.proofs.Bytes.{length-table}
@@ -17,7 +19,7 @@ use Rattle.isa.specs.State.{register_bytes, state_length}
 use Rattle.isa.proofs.Registers.{length-state}
 use Rattle.file.specs.File.{bytes_from, has_checkpoint, checkpoint_length, contents_length, steps_end, registers_in, start_of, saved_in, resumed_from}
 use Rattle.file.specs.File.{loaded_start, loaded_saved, storable, checkpoint_in, stored_bytes}
-use Rattle.file.proofs.Parts.{length_from, whole_from, sets-whole}
+use Rattle.file.proofs.Parts.{length_from, put-sets, sets-whole}
 
 -- two pieces stored from the front on
 joined : (s xs ys : List ℕ) (n : ℕ) → length xs ≡ n → sets (sets s 0 xs) n ys ≡ sets s 0 (xs ++ ys)
@@ -32,9 +34,6 @@ module _ (file : List ℕ) where
   pub length-start : length (start_of file) ≡ state_length
   length-start = length-state (registers_in file) 0 length-in
 
-  length-saved : length (saved_in file) ≡ state_length
-  length-saved = length_from file (steps_end file + 4) state_length
-
   pub resumed-saved : has_checkpoint file ≡ true → resumed_from file ≡ saved_in file
   resumed-saved = pick_true _ _
 
@@ -45,56 +44,33 @@ module _ (file : List ℕ) where
 
 -- a state of another length, and one that x is loaded over
 module _ (x state : List ℕ) where
-  pub load-other : (length state ≡ state_length → ⊥) → state ≡ cond (eqb (length state) state_length) x state
-  load-other f = sym (pick_false _ _ (ne_eqb (length state) state_length f))
-
   pub load-whole : length state ≡ state_length → x ≡ cond (eqb (length state) state_length) x state
   load-whole e = sym (pick_true _ _ (eq-eqb (length state) state_length e))
 
 -- the registers, from position p of the head on, and then a count of 0
-pub load_start_lem : (head state : List ℕ) (p : ℕ) → length state ≡ state_length → p ≡ contents_length head
-    → sets (sets state 0 (bytes_from head p 5120)) 5120 (bytes_of 8 0) ≡ loaded_start head state
-load_start_lem head state p e f =
-    ap (λ (q : ℕ). sets (sets state 0 (bytes_from head q 5120)) 5120 (bytes_of 8 0)) f
+pub load_start_lem : (head state out : List ℕ) (p : ℕ) → length state ≡ state_length → p ≡ contents_length head
+    → out ≡ bytes_from head p (length (take 5120 state)) → sets (out ++ drop 5120 state) 5120 (bytes_of 8 0) ≡ loaded_start head state
+load_start_lem head state out p e f g =
+    let size : length (take 5120 state) ≡ 5120 = length-take-le 5120 state (omega (arith, e)) in
+    let there : out ≡ registers_in head = g ∙ (λ t. bytes_from head (f t) (size t)) in
+    let long : length out ≡ 5120 = ap length there ∙ length-in head in
+    ap (λ (s : List ℕ). sets s 5120 (bytes_of 8 0)) (put-sets state out 0 5120 long (omega (arith, e)) ∙ ap (sets state 0) there)
     ∙ joined state (registers_in head) (bytes_of 8 0) 5120 (length-in head) ∙ sets-whole (start_of head) state (length-start head ∙ sym e)
     ∙ load-whole (start_of head) state e
-
-pub load_saved_lem : (last state : List ℕ) → length state ≡ state_length → sets state 0 (bytes_from last 4 5128) ≡ loaded_saved last state
-load_saved_lem last state e =
-    sets-whole (bytes_from last 4 state_length) state (length_from last 4 state_length ∙ sym e) ∙ load-whole (bytes_from last 4 state_length) state e
 
 -- ---- storing a checkpoint
 
 module _ (out state : List ℕ) (consumed : ℕ) where
-  abbrev Stores : List ℕ → ℕ → Type 0
+  abbrev pub Stores : List ℕ → ℕ → Type 0
   Stores out' r = (out' ≡ checkpoint_in out consumed state) × (r ≡ stored_bytes out consumed state)
 
-  abbrev whole : Bool
-  whole = eqb (length state) state_length
-
-  abbrev held : Bool
-  held = leb checkpoint_length (length out)
-
-  none : storable consumed state out ≡ false → Stores out 0
-  none e = (sym (pick_false _ _ e), sym (pick_false _ _ e))
-
-  pub store-large : 2 ^ 32 ≤ consumed → Stores out 0
-  store-large h = none (λ t. le-ltb consumed (2 ^ 32) h t && whole && held)
-
-  pub store_other : consumed < 2 ^ 32 → (length state ≡ state_length → ⊥) → Stores out 0
-  store_other h f = none (λ t. lt-ltb consumed (2 ^ 32) h t && ne_eqb (length state) state_length f t && held)
-
-  pub store-short : consumed < 2 ^ 32 → length state ≡ state_length → length out < checkpoint_length → Stores out 0
-  store-short h e l =
-      none (λ t. lt-ltb consumed (2 ^ 32) h t && eq-eqb (length state) state_length e t && lt-leb checkpoint_length (length out) l t)
-
-  pub store-whole : consumed < 2 ^ 32 → length state ≡ state_length → checkpoint_length ≤ length out
-      → Stores (sets (sets out 0 (bytes_of 4 consumed)) 4 (bytes_from state 0 5128)) 5132
-  store-whole h e l =
+  pub store-whole : consumed < 2 ^ 32 → length state ≡ state_length → checkpoint_length ≤ length out → (out' : List ℕ)
+      → out' ≡ sets out 0 (bytes_of 4 consumed) → Stores (put_mid 4 5128 out' state) 5132
+  store-whole h e l out' f =
       let yes : storable consumed state out ≡ true =
-      (λ t. lt-ltb consumed (2 ^ 32) h t && eq-eqb (length state) state_length e t && le-leb checkpoint_length (length out) l t)
-      in (
-        ap (sets (sets out 0 (bytes_of 4 consumed)) 4) (whole_from state 5128 e)
+      (λ t. lt-ltb consumed (2 ^ 32) h t && eq-eqb (length state) state_length e t && le-leb checkpoint_length (length out) l t) in
+      let long : length out' ≡ length out = ap length f ∙ length-sets out 0 (bytes_of 4 consumed) in (
+        put-sets out' state 4 5128 e (omega (arith, l, long)) ∙ ap (λ (o : List ℕ). sets o 4 state) f
             ∙ joined out (bytes_of 4 consumed) state 4 (length-table (byte_of consumed) 0 4) ∙ sym (pick_true _ _ yes),
         sym (pick_true _ _ yes),
       )

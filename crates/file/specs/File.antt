@@ -1,18 +1,14 @@
 -- Trace files, over their bytes: which are accepted, and what an accepted one holds.
 -- Assumes nothing.
 use Rattle.std.specs.Prelude.{Bool, true, cond, not, ◌&&◌, List, ◌++◌, ℕ, zero, suc, ◌+◌, ◌*◌, ◌/◌, ◌^◌, eqb, leb, ltb, length}
+use Rattle.std.specs.Prelude.{Option, Some, None, Result, Ok, Err}
 use Rattle.std.proofs.lemmas.List.Edits.{sets}
 use Rattle.number.specs.Bytes.{byte_at, number, table, bytes_of}
 use Rattle.isa.specs.State.{register_bytes, state_length, state_of}
 use Rattle.isa.specs.Call.{Call, call}
 use Rattle.file.specs.declared.FileRefusal.{FileRefusal}
 use Rattle.file.specs.declared.FileRefusal.TheVariants.{Short, Contents, Padding}
-use Rattle.file.specs.declared.Opened.{Opened}
-use Rattle.file.specs.declared.Opened.TheVariants.{Steps, Refused}
 use Rattle.file.specs.declared.Cursor.{Cursor}
-use Rattle.file.specs.declared.Record.{Record}
-use Rattle.file.specs.declared.Read.{Read}
-use Rattle.file.specs.declared.Read.TheVariants as read
 
 -- refused 5 to 7
 abbrev pub file_refusal_number : FileRefusal → ℕ
@@ -172,29 +168,29 @@ paddings_clear steps n = all (padding_clear steps) n
 
 -- "Refused 5: shorter than 28 bytes", which "also covers a count of 3 in under 40 bytes". "Refused 6: count or an entry differs from the above", or
 -- the starting state is cut short. So far a file is looked at before any line; what is read of it is its head.
-unfoldable pub head_as : List ℕ → Opened
+unfoldable pub head_as : List ℕ → Result ℕ FileRefusal
 head_as head =
-    cond (ltb (length head) (contents_length head)) (Refused Short)
-    (cond (not (table_right head)) (Refused Contents)
-    (cond (ltb (length head) (steps_base head)) (Refused Contents)
-    (Steps (step_count head))))
+    cond (ltb (length head) (contents_length head)) (Err Short)
+    (cond (not (table_right head)) (Err Contents)
+    (cond (ltb (length head) (steps_base head)) (Err Contents)
+    (Ok (step_count head))))
 
 -- A file that is sound as a whole: "Refused 6: .. or the file's length"; it "checks all three entries, the length, and consumed above n". "Refused 7: a
 -- padding byte not 0", of a consumed step too. In that order. A file with a checkpoint is accepted so before any line.
-unfoldable pub opened_as : List ℕ → Opened
+unfoldable pub opened_as : List ℕ → Result ℕ FileRefusal
 opened_as file =
-    cond (ltb (length file) (contents_length file)) (Refused Short)
-    (cond (not (contents_right file)) (Refused Contents)
-    (cond (not (paddings_clear (steps_in file) (step_count file))) (Refused Padding)
-    (Steps (step_count file))))
+    cond (ltb (length file) (contents_length file)) (Err Short)
+    (cond (not (contents_right file)) (Err Contents)
+    (cond (not (paddings_clear (steps_in file) (step_count file))) (Err Padding)
+    (Ok (step_count file))))
 
 -- The same of a file that is read piece by piece, behind a head that says n and n whole steps: by the bytes behind them, and whether the padding of all
 -- steps is clear. These are the checkpoint, and no more.
-unfoldable pub closed_as : List ℕ → ℕ → Bool → Opened
+unfoldable pub closed_as : List ℕ → ℕ → Bool → Result ℕ FileRefusal
 closed_as last n clear =
-    cond (not (eqb (length last) checkpoint_length && leb (number 4 (byte_at last) 0) n)) (Refused Contents)
-    (cond (not clear) (Refused Padding)
-    (Steps n))
+    cond (not (eqb (length last) checkpoint_length && leb (number 4 (byte_at last) 0) n)) (Err Contents)
+    (cond (not clear) (Err Padding)
+    (Ok n))
 
 -- ---- steps as they are read
 
@@ -216,20 +212,16 @@ fault_at steps i = cond (ltb (length steps) (step_at (suc i))) Contents Padding
 abbrev pub cursor : ℕ → ℕ → Cursor
 cursor next end = record { next = next; end = end }
 
--- a call as code holds it
-abbrev pub record_of : Call → Record
-record_of c = record { instruction = c.instruction; generation = c.generation; operand = c.operand }
-
 -- whether a cursor is at a step: not at or behind the end, and not from step 2,048 on, which no run has
 abbrev pub at_step : Cursor → Bool
 at_step c = ltb c.next c.end && ltb c.next run_steps
 
 -- the step that a cursor is at, with the cursor behind it
-abbrev pub read_as : List ℕ → Cursor → Read
+abbrev pub read_as : List ℕ → Cursor → Option (Call × Cursor)
 read_as steps c =
     cond (at_step c)
-    (read.Record (record_of (call_at steps c.next)) (cursor (c.next + 1) c.end))
-    read.End
+    (Some (call_at steps c.next, cursor (c.next + 1) c.end))
+    None
 
 -- ---- loading the state that a run goes on from
 

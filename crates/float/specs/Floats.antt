@@ -6,7 +6,7 @@
 -- Assumes nothing.
 use Rattle.std.specs.Prelude.{Bool, false, cond, not, ◌&&◌, ◌||◌, leb, ltb, eqb}
 use Rattle.std.specs.Bool.{beq}
-use Prim.Native.Nat.{ℕ, zero, suc, ◌+◌, ◌-◌, ◌*◌, ◌/◌, ◌%◌, ◌^◌, min, compare}
+use Prim.Native.Nat.{ℕ, zero, suc, ◌+◌, ◌-◌, ◌*◌, ◌/◌, ◌%◌, ◌^◌, ◌<◌, min, compare}
 use Rattle.std.specs.Float.{Format}
 use Rattle.std.specs.Float.Ieee.{prec, low, hid, ones, top, size, nearest}
 
@@ -53,6 +53,10 @@ closest n d = nearest (n / d) (compare (n % d * 2) d)
 unfoldable pub rounded : Format → ℕ → ℕ → ℕ
 unfolding size
 rounded f n j = let k = size (n / 2 ^ j) - prec f in min (k * hid f + closest n (2 ^ (j + k))) (infinity f)
+
+-- neither infinite nor a NaN
+abbrev pub Finite : Format → ℕ → Type 0
+Finite f a = a % top f < infinity f
 
 -- ---- arithmetic: "signs of zeros, infinities and overflow follow IEEE 754. A NaN from arithmetic becomes the default NaN"
 

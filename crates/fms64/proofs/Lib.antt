@@ -1,3 +1,4 @@
+pub mod Plain
 pub mod Rows
 pub mod Meant
 pub mod Whole

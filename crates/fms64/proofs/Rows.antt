@@ -16,12 +16,20 @@ use Rattle.isa.specs.State.{start}
 use Rattle.isa.specs.Effect.{Effect, new_lane, applied}
 use Rattle.isa.specs.Fms64 as Fms64
 use Rattle.state.specs.Rows.{among, one_row}
-use Rattle.state.proofs.Holds.{Bytes, lane_after, Holds}
+use Rattle.state.proofs.Holds.{Bytes, lane_after, Holds, bytes-applied}
 use Rattle.state.proofs.RunLoop.{among-yes}
 use Rattle.state.proofs.RowsLoop.{Below, rows_start, rows-skip, rows_more, rows_end}
 use Rattle.state.proofs.Dealing.{in_row}
 use Rattle.state.proofs.Numbers.{row_same, row_made}
-use Rattle.fms64.specs.Terms.{less_row, less_matrix}
+use Rattle.fms64.specs.Terms.{row_terms, less_row, less_matrix}
+
+-- bytes, where an effect may be applied to them
+pub bytes-if : (b : Bool) (e : Effect) (s : List ℕ) {t : List ℕ} → Bytes s → t ≡ cond b (applied e s) s → Bytes t
+bytes-if b e s small et = subst Bytes (sym et) (by b)
+  where
+    by : (b : Bool) → Bytes (cond b (applied e s) s)
+    by true = bytes-applied e s small
+    by false = small
 
 -- ---- one row
 
@@ -57,19 +65,20 @@ module _ (j p : ℕ) (ts : List ℕ) (on : List Bool) (skip_z : Bool) (s : List 
     written : (x : Bool) → skip_x ≡ x → get_or yon j false ≡ true → t ≡ row_by (λ l. cond x j l) → Left
     written x e y et = et ∙ ap (λ (b : Bool). row_by (λ l. cond b j l)) (sym e) ∙ sym (pick_true _ _ y)
 
-    pub own-terms : skip_x ≡ false → get_or yon j false ≡ true → t ≡ applied (less_row (8 * j + p) ts on skip_z) s → Left
-    own-terms = written false
+    pub row-left : length s ≡ 5120 → Bytes s → get_or yon j false ≡ true → (us : List ℕ) → us ≡ row_terms skip_x ts j
+        → t ≡ applied (less_row (8 * j + p) us on skip_z) s → Left
+    row-left size small y us eu et = two skip_x Left (λ e. written true e y (by true e ∙ one-term)) (λ e. written false e y (by false e))
+      where
+        by : (x : Bool) → skip_x ≡ x → t ≡ applied (less_row (8 * j + p) (row_terms x ts j) on skip_z) s
+        by x e = et ∙ ap (λ (vs : List ℕ). applied (less_row (8 * j + p) vs on skip_z) s) (eu ∙ ap (λ (b : Bool). row_terms b ts j) e)
 
-    -- one term for all lanes
-    pub same-term : length s ≡ 5120 → Bytes s → skip_x ≡ true → get_or yon j false ≡ true
-        → t ≡ applied (less_row (8 * j + p) (replicate 8 (get_or ts j 0)) on skip_z) s → Left
-    same-term size small e y et =
-        written true e y
-        (et
-        ∙ row_same 8 8 refl (8 * j + p) s size small (λ l. get_or on l false) (λ l. get_or on l false)
-        (λ l z. Fms64.less_term skip_z (get_or (replicate 8 (get_or ts j 0)) l 0) z) (λ l z. Fms64.less_term skip_z (get_or ts j 0) z)
-        (λ l hl. refl)
-        (λ l hl. ap (λ (v : ℕ). Fms64.less_term skip_z v (number 8 (byte_at s) (start 8 (8 * j + p) l))) (get_or-replicate 8 l (get_or ts j 0) 0 hl)))
+        -- one term for all lanes
+        one-term : applied (less_row (8 * j + p) (replicate 8 (get_or ts j 0)) on skip_z) s ≡ row_by (λ l. j)
+        one-term =
+            row_same 8 8 refl (8 * j + p) s size small (λ l. get_or on l false) (λ l. get_or on l false)
+            (λ l z. Fms64.less_term skip_z (get_or (replicate 8 (get_or ts j 0)) l 0) z) (λ l z. Fms64.less_term skip_z (get_or ts j 0) z)
+            (λ l hl. refl)
+            (λ l hl. ap (λ (v : ℕ). Fms64.less_term skip_z v (number 8 (byte_at s) (start 8 (8 * j + p) l))) (get_or-replicate 8 l (get_or ts j 0) 0 hl))
 
 -- ---- rows 8 j to 8 j + 7, of which one may be written
 

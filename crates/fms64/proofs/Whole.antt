@@ -1,6 +1,6 @@
 -- A whole step, from the parts that the code has read, and its count.
 -- Assumes nothing.
-use mathlib.Core.Path.{◌≡◌, refl, sym, ◌∙◌}
+use mathlib.Core.Path.{◌≡◌, refl, sym, ap, ◌∙◌}
 use mathlib.Core.Bool.{Bool, true, false, cond, ◌&&◌}
 use mathlib.Core.List.{List}
 use Prim.Native.Nat.{ℕ, ◌*◌, ◌/◌, ◌%◌}
@@ -20,27 +20,24 @@ use Rattle.state.proofs.Holds.{Bytes}
 use Rattle.state.proofs.Counts.{one-row, row-of-each}
 use Rattle.masks.specs.Mask.{mask_of}
 use Rattle.masks.proofs.Mask.{counts_rule}
-use Rattle.masks.proofs.Lanes.{lanes-of_rule}
+use Rattle.masks.proofs.Bools.{lanes-of_rule}
 use Rattle.fms64.specs.Terms.{terms_of, keeps_z, less_row, less_matrix}
 use Rattle.fms64.proofs.Meant.{vector-meant, matrix-meant}
 
 -- ---- what the forms leave
 
 module _ (op : ℕ) (s t : List ℕ) (size : length s ≡ 5120) (small : Bytes s) (keep : Bool) (ek : keep ≡ keeps_z op) (left : keep ≡ false)
-    (x : ℕ) (ex : x ≡ mask_of (x_enabled op) 64) (on : List Bool) (eo : on ≡ table (bit x) 0 8)
-    (ts : List ℕ) (et : ts ≡ terms_of op s) (skip_z : Bool) (ez : skip_z ≡ skips_z op) (row : ℕ) (er : row ≡ z_row op) where
-  lanes : on ≡ table (x_enabled op) 0 8
-  lanes = lanes-of_rule (x_enabled op) 64 8 x on (omega arith) ex eo
-
+    (on : List Bool) (eo : on ≡ table (x_enabled op) 0 8) (ts : List ℕ) (et : ts ≡ terms_of op s)
+    (skip_z : Bool) (ez : skip_z ≡ skips_z op) (row : ℕ) (er : row ≡ z_row op) where
   pub vector-is : vector op ≡ true → t ≡ applied (less_row row ts on skip_z) s → t ≡ applied (Fms64.fms64 op) s
-  vector-is v e = e ∙ (λ i. applied (less_row (er i) (et i) on (ez i)) s) ∙ vector-meant op s size small (sym ek ∙ left) on lanes v
+  vector-is v e = e ∙ (λ i. applied (less_row (er i) (et i) on (ez i)) s) ∙ vector-meant op s size small (sym ek ∙ left) on eo v
 
   pub matrix-is : vector op ≡ false → (y : ℕ) → y ≡ mask_of (y_enabled op) 64 → (yon : List Bool) → yon ≡ table (bit y) 0 8 → (skip_x : Bool) →
       skip_x ≡ skips_x op
       → t ≡ applied (less_matrix (row % 8) ts skip_x on yon skip_z) s → t ≡ applied (Fms64.fms64 op) s
   matrix-is v y ey yon eyon skip_x esx e =
       e ∙ (λ i. applied (less_matrix (er i % 8) (et i) (esx i) on yon (ez i)) s)
-      ∙ matrix-meant op s size small (sym ek ∙ left) on lanes v yon (lanes-of_rule (y_enabled op) 64 8 y yon (omega arith) ey eyon)
+      ∙ matrix-meant op s size small (sym ek ∙ left) on eo v yon (lanes-of_rule (y_enabled op) 64 8 y yon (omega arith) ey eyon)
 
 -- ---- counts
 
@@ -78,9 +75,10 @@ module _ (op : ℕ) where
 
 -- ---- the step
 
-pub on-registers : (op : ℕ) (s t : List ℕ) (r : ℕ) → length s ≡ 5120 → (t ≡ applied (Fms64.fms64 op) s) × (r ≡ bytes_on (Fms64.fms64 op))
+pub on-registers : (op : ℕ) (s t : List ℕ) (r : ℕ) → length s ≡ 5120 → (w : List ℕ) → w ≡ s
+    → (t ≡ applied (Fms64.fms64 op) w) × (r ≡ bytes_on (Fms64.fms64 op))
     → (t ≡ cond (eqb (length s) 5120) (applied (Fms64.fms64 op) s) s) × (r ≡ cond (eqb (length s) 5120) (bytes_on (Fms64.fms64 op)) 0)
-on-registers op s t r size h = (
-  h.0 ∙ sym (pick_true _ _ (eq-eqb (length s) 5120 size)),
+on-registers op s t r size w same h = (
+  h.0 ∙ ap (applied (Fms64.fms64 op)) same ∙ sym (pick_true _ _ (eq-eqb (length s) 5120 size)),
   h.1 ∙ sym (pick_true _ _ (eq-eqb (length s) 5120 size)),
 )

@@ -1,6 +1,6 @@
 -- fms64 on lists: the terms of the lanes, and what is done with them as effects.
 -- Assumes nothing.
-use Rattle.std.specs.Prelude.{Bool, false, cond, ◌&&◌, List, ℕ, ◌/◌, ◌%◌, eqb, get_or}
+use Rattle.std.specs.Prelude.{Bool, false, cond, ◌&&◌, List, ℕ, ◌/◌, ◌%◌, eqb, get_or, replicate}
 use Rattle.number.specs.Bytes.{table}
 use Rattle.isa.specs.Effect.{Effect}
 use Rattle.isa.specs.Fms64 as Fms64
@@ -13,6 +13,10 @@ term skip_x skip_y x y = cond skip_x (cond skip_y 0 y) x
 -- the terms of 8 lanes, each of its own x and y
 unfoldable pub terms_of : ℕ → List ℕ → List ℕ
 terms_of op s = table (λ l. term (Fms64.skips_x op) (Fms64.skips_y op) (Fms64.x_lane op s l) (Fms64.y_lane op s l)) 0 8
+
+-- the terms of a row that comes to Y lane j: term j where X is skipped, and elsewhere each lane's own
+abbrev pub row_terms : Bool → List ℕ → ℕ → List ℕ
+row_terms skip_x ts j = cond skip_x (replicate 8 (get_or ts j 0)) ts
 
 -- z stays: X and Y are skipped, and Z is not
 abbrev pub keeps : Bool → Bool → Bool → Bool

@@ -5,101 +5,107 @@ ghost use Rattle.std.specs.Prelude.{◌≡◌, true, false, cond, ◌+◌, ◌*�
 ghost use Rattle.std.specs.Float.{binary64};
 ghost use Rattle.number.specs.Bytes.{number, table};
 ghost use Rattle.float.specs.Floats.{negated};
+ghost use Rattle.isa.specs.Operand.{bits};
 ghost use Rattle.isa.specs.State.{register_bytes, x_base, y_base, loaded};
 ghost use Rattle.isa.specs.Effect.{applied, bytes_on};
+ghost use Rattle.isa.specs.Enable.{mac16_enables};
 ghost use Rattle.isa.specs.Fms64 as Fms64;
 ghost use Rattle.state.specs.Rows.{one_row};
 ghost use Rattle.masks.specs.Mask.{mask_of};
-ghost use Rattle.fms64.specs.Terms.{terms_of, less_row, less_matrix, keeps_z};
+ghost use Rattle.fms64.specs.Terms.{terms_of, row_terms, less_row, less_matrix, keeps_z};
 
-// ---- a row
+use float::Pattern;
+use lanes::Difference;
+
+// ---- rows
 
 fn negatives(ts: &[u64; 8]) -> [u64; 8]
     ensures { result ≡ table (λ l. negated binary64 (get_or ts.now l 0)) 0 8 }
 {
-    let mut out = [0u64; 8];
-    for l in 0..8 {
-        out[l] = float::neg64(ts[l]);
-    }
-    out
+    std::array::from_fn(|l| ts[l].neg())
 }
 
-// The enabled lanes of a row, each less its term; where Z is skipped, the terms with their signs flipped.
-fn less_row(state: &mut [u8], row: usize, ts: &[u64; 8], on: &[bool; 8], skipz: bool)
-    requires { (length state.old ≡ register_bytes) × (row < 64) }
-    ensures { state.new ≡ applied (less_row row ts.now on.now skipz) state.old }
-{
-    if skipz {
-        let values = negatives(ts);
-        state::put_row64(state, row, &values, on);
-        return;
-    }
-    let zs = state::row64(state, row);
-    let values = lanes::differences64(&zs, ts);
-    state::put_row64(state, row, &values, on);
+// What the lanes of Z are less: a term for each lane of a row or, X being skipped, one for each row of a matrix.
+// The lanes that `on` leaves out stay as they are; where Z is skipped, the terms are taken from nothing.
+#[derive(Drop)]
+struct Less {
+    terms: [u64; 8],
+    skips_x: bool,
+    on: [bool; 8],
+    skips_z: bool,
 }
 
-// ---- a matrix
-
-// Row 8 j + p, where Y lane j is enabled. Its lanes have term j, where X is skipped, or each its own.
-fn matrix_row(
-    state: &mut [u8],
-    j: usize,
-    p: usize,
-    ts: &[u64; 8],
-    skipx: bool,
-    on: &[bool; 8],
-    yon: &[bool; 8],
-    skipz: bool,
-)
-    requires { (length state.old ≡ register_bytes) × (j < 8) × (p < 8) }
-    ensures { state.new ≡ cond (get_or yon.now j false)
-        (applied (one_row 8 (8 * j + p) (λ l. get_or on.now l false)
-        (λ l z. Fms64.less_term skipz (get_or ts.now (cond skipx j l) 0) z)) state.old)
-        state.old }
-{
-    if !yon[j] {
-        return;
+impl Less {
+    // A row, each lane less its term of these; where Z is skipped, the terms with their signs flipped.
+    fn row(&self, state: &mut [u8; 5120], row: usize, terms: &[u64; 8])
+        requires { row < 64 }
+        ensures { state.new ≡ applied (less_row row terms.now self.now.on self.now.skips_z) state.old }
+    {
+        if self.skips_z {
+            state::put_row(state, row, &negatives(terms), &self.on);
+            return;
+        }
+        let zs: [u64; 8] = state::row(state, row);
+        let values = lanes::each::<Difference, u64, 8>(&zs, terms);
+        state::put_row(state, row, &values, &self.on);
     }
-    if skipx {
-        let t = ts[j];
-        let same = [t; 8];
-        less_row(state, 8 * j + p, &same, on, skipz);
-        return;
-    }
-    less_row(state, 8 * j + p, ts, on, skipz);
-}
 
-fn matrix(
-    state: &mut [u8],
-    p: usize,
-    ts: &[u64; 8],
-    skipx: bool,
-    on: &[bool; 8],
-    yon: &[bool; 8],
-    skipz: bool,
-)
-    requires { (length state.old ≡ register_bytes) × (p < 8) }
-    ensures { state.new ≡
-        applied (less_matrix p ts.now skipx on.now yon.now skipz) state.old }
-{
-    for j in 0..8 {
-        matrix_row(state, j, p, ts, skipx, on, yon, skipz);
+    // The terms of the rows that Y lane j comes to: term j for every lane, where X is skipped, or each lane's own.
+    fn row_terms(&self, j: usize) -> [u64; 8]
+        requires { j < 8 }
+        ensures { result ≡ row_terms self.now.skips_x self.now.terms j }
+    {
+        if self.skips_x {
+            return [self.terms[j]; 8];
+        }
+        self.terms
+    }
+
+    // Row 8 j + p, where Y lane j is enabled.
+    fn matrix_row(&self, state: &mut [u8; 5120], j: usize, p: usize, yon: &[bool; 8])
+        requires { (j < 8) × (p < 8) }
+        ensures { state.new ≡ cond (get_or yon.now j false)
+            (applied (one_row 8 (8 * j + p) (λ l. get_or self.now.on l false)
+            (λ l z. Fms64.less_term self.now.skips_z (get_or self.now.terms (cond self.now.skips_x j l) 0) z)) state.old)
+            state.old }
+    {
+        if yon[j] {
+            self.row(state, 8 * j + p, &self.row_terms(j));
+        }
+    }
+
+    fn matrix(&self, state: &mut [u8; 5120], p: usize, yon: &[bool; 8])
+        requires { p < 8 }
+        ensures { state.new ≡
+            applied (less_matrix p self.now.terms self.now.skips_x self.now.on yon.now self.now.skips_z) state.old }
+    {
+        for j in 0..8 {
+            self.matrix_row(state, j, p, yon);
+        }
     }
 }
 
 // ---- what an operand says
 
+// The lanes that an enable value, of 5 bits, and the mode of 2 bits above it enable.
+fn enabled(op: u64, at: u32) -> u64
+    requires { at < 64 }
+    ensures { result ≡ mask_of (mac16_enables 8 (bits op (at + 5) (at + 6)) (bits op at (at + 4))) 64 }
+{
+    let mode = operand::field(op, at + 5, at + 6);
+    masks::mac16_mask(8, mode, operand::field(op, at, at + 4))
+}
+
 fn x_mask(op: u64) -> u64
     ensures { result ≡ mask_of (Fms64.x_enabled op) 64 }
 {
-    masks::mac16_mask(8, operand::field(op, 46, 47), operand::field(op, 41, 45))
+    enabled(op, 41)
 }
 
 fn y_mask(op: u64) -> u64
     ensures { result ≡ mask_of (Fms64.y_enabled op) 64 }
 {
-    masks::mac16_mask(8, operand::field(op, 37, 38), operand::field(op, 32, 36))
+    enabled(op, 32)
 }
 
 fn z_row(op: u64) -> usize
@@ -112,13 +118,7 @@ fn z_row(op: u64) -> usize
 fn keeps_z(op: u64) -> bool
     ensures { result ≡ keeps_z op }
 {
-    if operand::flag(op, 27) {
-        return false;
-    }
-    if operand::flag(op, 28) {
-        return operand::flag(op, 29);
-    }
-    false
+    !operand::flag(op, 27) && operand::flag(op, 28) && operand::flag(op, 29)
 }
 
 // The 8 patterns of Y, or of X, from an offset on.
@@ -126,7 +126,7 @@ fn patterns(state: &[u8], y: bool, offset: u64) -> [u64; 8]
     ensures { result ≡ table (λ l. number 8 (loaded state.now (cond y y_base x_base) offset) (8 * l)) 0 8 }
 {
     let bytes = state::load(state, y, offset);
-    state::words64(&bytes)
+    state::words(&bytes)
 }
 
 // The term of each lane: x, or y where X is skipped, or 0 where both are.
@@ -142,45 +142,46 @@ fn terms(state: &[u8], op: u64) -> [u64; 8]
     patterns(state, false, operand::field(op, 10, 18))
 }
 
-// ---- the step, on a state of 5,120 bytes
-
-fn vector_rows(state: &mut [u8], op: u64, x: u64)
-    requires { (length state.old ≡ register_bytes) × (Fms64.vector op ≡ true) × (x ≡ mask_of (Fms64.x_enabled op) 64) }
-    ensures { state.new ≡ applied (Fms64.fms64 op) state.old }
+fn less_of(state: &[u8], op: u64, x: u64) -> Less
+    requires { x ≡ mask_of (Fms64.x_enabled op) 64 }
+    ensures { (result.terms ≡ terms_of op state.now) × (result.skips_x ≡ Fms64.skips_x op)
+        × (result.on ≡ table (Fms64.x_enabled op) 0 8) × (result.skips_z ≡ Fms64.skips_z op) }
 {
-    if keeps_z(op) {
-        return;
+    Less {
+        terms: terms(state, op),
+        skips_x: operand::flag(op, 29),
+        on: masks::lanes(x),
+        skips_z: operand::flag(op, 27),
     }
-    let on = masks::lanes8(x);
-    let ts = terms(state, op);
-    less_row(state, z_row(op), &ts, &on, operand::flag(op, 27));
 }
 
-fn matrix_rows(state: &mut [u8], op: u64, x: u64, y: u64)
-    requires { (length state.old ≡ register_bytes) × (Fms64.vector op ≡ false)
-        × (x ≡ mask_of (Fms64.x_enabled op) 64) × (y ≡ mask_of (Fms64.y_enabled op) 64) }
+// ---- the step, on a state of 5,120 bytes
+
+fn vector_rows(state: &mut [u8; 5120], op: u64, x: u64)
+    requires { (Fms64.vector op ≡ true) × (x ≡ mask_of (Fms64.x_enabled op) 64) }
     ensures { state.new ≡ applied (Fms64.fms64 op) state.old }
 {
     if keeps_z(op) {
         return;
     }
-    let on = masks::lanes8(x);
-    let yon = masks::lanes8(y);
-    let ts = terms(state, op);
-    matrix(
-        state,
-        z_row(op) % 8,
-        &ts,
-        operand::flag(op, 29),
-        &on,
-        &yon,
-        operand::flag(op, 27),
-    );
+    let less = less_of(state, op, x);
+    less.row(state, z_row(op), &less.terms);
+}
+
+fn matrix_rows(state: &mut [u8; 5120], op: u64, x: u64, y: u64)
+    requires { (Fms64.vector op ≡ false) × (x ≡ mask_of (Fms64.x_enabled op) 64) × (y ≡ mask_of (Fms64.y_enabled op) 64) }
+    ensures { state.new ≡ applied (Fms64.fms64 op) state.old }
+{
+    if keeps_z(op) {
+        return;
+    }
+    let yon = masks::lanes(y);
+    less_of(state, op, x).matrix(state, z_row(op) % 8, &yon);
 }
 
 // Of each form: what it leaves, and the count of bytes in enabled lanes.
-fn vector_step(state: &mut [u8], op: u64) -> u64
-    requires { (length state.old ≡ register_bytes) × (Fms64.vector op ≡ true) }
+fn vector_step(state: &mut [u8; 5120], op: u64) -> u64
+    requires { Fms64.vector op ≡ true }
     ensures { (state.new ≡ applied (Fms64.fms64 op) state.old) × (result ≡ bytes_on (Fms64.fms64 op)) }
 {
     let x = x_mask(op);
@@ -188,8 +189,8 @@ fn vector_step(state: &mut [u8], op: u64) -> u64
     masks::count_first(x, 8) * 8
 }
 
-fn matrix_step(state: &mut [u8], op: u64) -> u64
-    requires { (length state.old ≡ register_bytes) × (Fms64.vector op ≡ false) }
+fn matrix_step(state: &mut [u8; 5120], op: u64) -> u64
+    requires { Fms64.vector op ≡ false }
     ensures { (state.new ≡ applied (Fms64.fms64 op) state.old) × (result ≡ bytes_on (Fms64.fms64 op)) }
 {
     let x = x_mask(op);
@@ -204,11 +205,11 @@ pub fn step(state: &mut [u8], op: u64) -> u64
         (applied (Fms64.fms64 op) state.old) state.old)
         × (result ≡ cond (eqb (length state.old) register_bytes) (bytes_on (Fms64.fms64 op)) 0) }
 {
-    if state.len() != 5120 {
+    let Some(registers) = state.as_mut_array() else {
         return 0;
-    }
+    };
     if operand::flag(op, 63) {
-        return vector_step(state, op);
+        return vector_step(registers, op);
     }
-    matrix_step(state, op)
+    matrix_step(registers, op)
 }

@@ -5,13 +5,14 @@ use mathlib.Core.Bool.{Bool, true, false, cond, not}
 use mathlib.Core.List.{List, [], ◌∷◌}
 use mathlib.Core.Logic.{◌⊎◌, inl, inr, ⊎_elim}
 use Prim.Native.Nat.{ℕ}
+use Rattle.std.specs.Prelude.{Ok, Err}
 use lib.Dec.{eqb}
 use lib.ListN.{length}
 use Rattle.isa.specs.declared.Answer.{Answer}
 use Rattle.isa.specs.declared.Answer.TheVariants.{Done, NoOp, Refused}
 use Rattle.isa.specs.declared.Refusal.{Refusal}
 use Rattle.isa.specs.declared.Refusal.TheVariants.{StateLength, Serial, LastCount}
-use Rattle.isa.specs.declared.Normal.TheVariants as normal
+use Rattle.isa.specs.declared.NotDone.TheVariants as not_done
 use Rattle.isa.specs.Operand.{bits}
 use Rattle.isa.specs.State.{state_length, count_of, last_count}
 use Rattle.isa.specs.Effect.{Effect, bytes_on}
@@ -112,11 +113,11 @@ mode-bits_stay gen op f = V'.mode-bits-same gen op f
 -- ---- the demands
 
 -- where there is a normal operand it is the call's
-is_normal : (c : Call) (op : ℕ) → normal_of c ≡ normal.Operand op → normal_operand c ≡ op
+is_normal : (c : Call) (op : ℕ) → normal_of c ≡ Ok op → normal_operand c ≡ op
 unfolding normal_of
 is_normal c op e = go (own_answer c) e
   where
-    go : (a : Answer) → instead a (normal_operand c) ≡ normal.Operand op → normal_operand c ≡ op
+    go : (a : Answer) → instead a (normal_operand c) ≡ Ok op → normal_operand c ≡ op
     go (Done n) e = cc
     go (NoOp r) e = cc
     go (Refused r) e = cc
@@ -142,8 +143,8 @@ operand_twice c = twice-by (instruction_of c) c.generation c.operand
 
 pub normal_twice : NormalTwice
 normal_twice c op e =
-    subst (λ (x : ℕ). normal_of (call c.instruction c.generation x) ≡ normal.Operand x)
-    (is_normal c op e) (once c ∙ e ∙ ap normal.Operand (sym (is_normal c op e)))
+    subst (λ (x : ℕ). normal_of (call c.instruction c.generation x) ≡ Ok x)
+    (is_normal c op e) (once c ∙ e ∙ ap Ok (sym (is_normal c op e)))
   where
     once : (c : Call) → normal_of (normalised c) ≡ normal_of c
     once c = unfold normal_of in ap₂ instead (own_same c) (operand_twice c)
@@ -203,7 +204,7 @@ normal_never c r e =
     asked : AllRows NotByState (asked_rows c)
     asked = asked_all NotByState tt tt tt refl (instruction_of c) c.generation c.operand
 
-    go : (a : Answer) → instead a (normal_operand c) ≡ normal.Refused r → NotByState a → by_state r ≡ false
+    go : (a : Answer) → instead a (normal_operand c) ≡ Err (not_done.Refused r) → NotByState a → by_state r ≡ false
     go (Done n) e h = cc
     go (NoOp x) e h = cc
     go (Refused x) e h =

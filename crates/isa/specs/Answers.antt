@@ -1,14 +1,14 @@
 -- What comes back.
 -- Assumes nothing.
-use Rattle.std.specs.Prelude.{Bool, true, false, cond, not, ◌&&◌, ◌||◌, List, [], ◌∷◌, ◌++◌, ℕ, ◌+◌, leb, eqb, length}
+use Rattle.std.specs.Prelude.{Bool, true, false, cond, not, ◌&&◌, ◌||◌, List, [], ◌∷◌, ◌++◌, ℕ, ◌+◌, leb, eqb, length, Result, Ok, Err}
 use Rattle.isa.specs.declared.Reason.{Reason}
 use Rattle.isa.specs.declared.Reason.TheVariants as reason
 use Rattle.isa.specs.declared.Refusal.{Refusal}
 use Rattle.isa.specs.declared.Refusal.TheVariants as refusal
 use Rattle.isa.specs.declared.Answer.{Answer}
 use Rattle.isa.specs.declared.Answer.TheVariants.{Done, NoOp, Refused}
-use Rattle.isa.specs.declared.Normal.{Normal}
-use Rattle.isa.specs.declared.Normal.TheVariants as normal
+use Rattle.isa.specs.declared.NotDone.{NotDone}
+use Rattle.isa.specs.declared.NotDone.TheVariants as not_done
 use Rattle.isa.specs.Operand.{bits}
 use Rattle.isa.specs.State.{state_length, count_of, last_count}
 use Rattle.isa.specs.Effect.{bytes_on}
@@ -46,11 +46,14 @@ host_number (Done bytes) = bytes
 host_number (NoOp r) = no_op_number r
 host_number (Refused r) = refused_number r
 
+abbrev pub not_done_number : NotDone → ℕ
+not_done_number (not_done.NoOp r) = no_op_number r
+not_done_number (not_done.Refused r) = refused_number r
+
 -- the same for the normal operand; 0 where there is one
-abbrev pub normal_number : Normal → ℕ
-normal_number (normal.Operand op) = 0
-normal_number (normal.NoOp r) = no_op_number r
-normal_number (normal.Refused r) = refused_number r
+abbrev pub normal_number : Result ℕ NotDone → ℕ
+normal_number (Ok op) = 0
+normal_number (Err e) = not_done_number e
 
 -- ---- the table
 
@@ -143,6 +146,12 @@ first_of (r ∷ rs) otherwise = cond r.applies r.answer (first_of rs otherwise)
 -- "done n: otherwise". "Done now reports Z bytes in the enabled lanes, at most 4,096, wherever it reported lanes, the host number included."
 abbrev done_answer : Call → Answer
 done_answer c = Done (bytes_on (effect_of c))
+
+-- what a table says before the call is done: whether it passes
+abbrev pub passed : Answer → Result Unit NotDone
+passed (Done bytes) = Ok tt
+passed (NoOp r) = Err (not_done.NoOp r)
+passed (Refused r) = Err (not_done.Refused r)
 
 unfoldable pub answer_by : ℕ → ℕ → ℕ → Call → Answer
 answer_by n count serial c = first_of (rows_above n count serial c) (done_answer c)

@@ -1,6 +1,7 @@
 -- A call of the step.
 -- Assumes nothing.
 use Rattle.std.specs.Prelude.{cond, ℕ, eqb}
+use Rattle.isa.specs.declared.Call as declared
 use Rattle.isa.specs.Effect.{Effect, nothing}
 use Rattle.isa.specs.Mac16 as Mac16
 use Rattle.isa.specs.Vecint as Vecint
@@ -8,10 +9,8 @@ use Rattle.isa.specs.Vecfp as Vecfp
 use Rattle.isa.specs.Fms64 as Fms64
 
 -- "an instruction number .., a generation (1 or 2) and a 64-bit operand"
-pub record Call : Type 0 where
-  pub instruction : ℕ
-  pub generation : ℕ
-  pub operand : ℕ
+abbrev pub Call : Type 0
+Call = declared.Call
 
 abbrev pub call : ℕ → ℕ → ℕ → Call
 call instruction generation operand = record { instruction = instruction; generation = generation; operand = operand }

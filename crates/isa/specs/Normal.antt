@@ -1,10 +1,10 @@
 -- The normal operand: the operand with its ignored bits cleared.
 -- Assumes nothing.
-use Rattle.std.specs.Prelude.{Bool, true, cond, not, ◌&&◌, List, [], ◌∷◌, ◌++◌, ℕ, eqb}
+use Rattle.std.specs.Prelude.{Bool, true, cond, not, ◌&&◌, List, [], ◌∷◌, ◌++◌, ℕ, eqb, Result, Ok, Err}
 use Rattle.isa.specs.declared.Answer.{Answer}
 use Rattle.isa.specs.declared.Answer.TheVariants.{Done, NoOp, Refused}
-use Rattle.isa.specs.declared.Normal.{Normal}
-use Rattle.isa.specs.declared.Normal.TheVariants as normal
+use Rattle.isa.specs.declared.NotDone.{NotDone}
+use Rattle.isa.specs.declared.NotDone.TheVariants as not_done
 use Rattle.isa.specs.Operand.{bit, cleared}
 use Rattle.isa.specs.Mac16 as Mac16
 use Rattle.isa.specs.Vecint as Vecint
@@ -108,16 +108,15 @@ normal_operand c = cleared_all (ignored c) c.operand
 
 -- "Asking for it takes generation, instruction and operand, and gives the step's own refusal or no-op where the step isn't done."
 -- There is neither state nor serial, so the answer is the call's own: never refused 1, 8 or 9.
-abbrev pub instead : Answer → ℕ → Normal
-instead (Done bytes) op = normal.Operand op
-instead (NoOp r) op = normal.NoOp r
-instead (Refused r) op = normal.Refused r
+abbrev pub instead : Answer → ℕ → Result ℕ NotDone
+instead (Done bytes) op = Ok op
+instead (NoOp r) op = Err (not_done.NoOp r)
+instead (Refused r) op = Err (not_done.Refused r)
 
-unfoldable pub normal_of : Call → Normal
+unfoldable pub normal_of : Call → Result ℕ NotDone
 normal_of c = instead (own_answer c) (normal_operand c)
 
 -- the operand that is handed back: the normal one, or the operand as given where the step isn't done
-abbrev pub handed_back : ℕ → Normal → ℕ
-handed_back op (normal.Operand n) = n
-handed_back op (normal.NoOp r) = op
-handed_back op (normal.Refused r) = op
+abbrev pub handed_back : ℕ → Result ℕ NotDone → ℕ
+handed_back op (Ok n) = n
+handed_back op (Err e) = op

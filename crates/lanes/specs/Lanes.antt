@@ -1,15 +1,10 @@
 -- Lists of patterns.
 -- Assumes nothing.
-use Rattle.std.specs.Prelude.{List, ℕ, ◌%◌, ◌<◌, get_or}
+use Rattle.std.specs.Prelude.{List, ℕ, ◌<◌, get_or}
 use Rattle.std.specs.Float.{Format}
-use Rattle.std.specs.Float.Ieee.{top}
-use Rattle.float.specs.Floats.{infinity}
+use Rattle.float.specs.Floats.{Finite}
 
--- neither infinite nor a NaN
-abbrev pub Finite : Format → ℕ → Type 0
-Finite f a = a % top f < infinity f
-
--- so are the first n of a list
+-- the first n of a list are neither infinite nor NaNs
 abbrev pub AllFinite : Format → List ℕ → ℕ → Type 0
 AllFinite f xs n = (l : ℕ) → l < n → Finite f (get_or xs l 0)
 

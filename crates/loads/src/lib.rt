@@ -55,11 +55,7 @@ fn picks(packed: &[u8; 64], register: &[u8; 64], wide: bool, four: bool) -> [u8;
     ensures { result ≡ table (Vecint.picked (lane_bytes wide) (Vecint.index_width four)
         (byte_at packed.now) (byte_at register.now)) 0 64 }
 {
-    let mut out = [0u8; 64];
-    for i in 0..64 {
-        out[i] = picked(packed, register, wide, four, i);
-    }
-    out
+    std::array::from_fn(|i| picked(packed, register, wide, four, i))
 }
 
 // The same, with the widths told to the compiler, which makes a loop for each.
@@ -67,16 +63,12 @@ fn indexed(packed: &[u8; 64], register: &[u8; 64], wide: bool, four: bool) -> [u
     ensures { result ≡ table (Vecint.picked (lane_bytes wide) (Vecint.index_width four)
         (byte_at packed.now) (byte_at register.now)) 0 64 }
 {
-    if wide {
-        if four {
-            return picks(packed, register, true, true);
-        }
-        return picks(packed, register, true, false);
+    match (wide, four) {
+        (true, true) => picks(packed, register, true, true),
+        (true, false) => picks(packed, register, true, false),
+        (false, true) => picks(packed, register, false, true),
+        (false, false) => picks(packed, register, false, false),
     }
-    if four {
-        return picks(packed, register, false, true);
-    }
-    picks(packed, register, false, false)
 }
 
 // ---- the parts of an operand that are a side's: of Y, or of X

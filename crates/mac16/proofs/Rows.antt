@@ -2,23 +2,24 @@
 -- Assumes nothing.
 use mathlib.Core.Path.{◌≡◌, refl, sym, ap, ap₂, ◌∙◌, subst}
 use mathlib.Core.Bool.{Bool, true, false, cond, ◌&&◌, ◌||◌}
-use mathlib.Core.List.{List}
-use Prim.Native.Nat.{ℕ, ◌+◌, ◌-◌, ◌*◌, ◌/◌, ◌%◌, ◌≤◌, ◌<◌}
+use mathlib.Core.List.{List, [], ◌∷◌}
+use Prim.Native.Nat.{ℕ, zero, suc, ◌+◌, ◌-◌, ◌*◌, ◌/◌, ◌%◌, ◌≤◌, ◌<◌}
 use native.Mathlib.Nat.{zero-add, zero-mul}
 use native.Mathlib.Omega.{arith}
 use lib.Dec.{eqb}
 use lib.IntN.{ℤ, pos}
-use lib.ListN.{length, get_or, replicate, get_or-replicate}
+use lib.ListN.{length, get_or, set, replicate, get_or-replicate}
+use lib.Seq.{sets}
 use mathlib.Core.Logic.{⊎_elim}
 use borrow.Author.Tests.{eq-eqb, ne_eqb, eqb-true, eqb-false}
-use Rattle.number.specs.Bytes.{span, byte_at, number}
+use Rattle.number.specs.Bytes.{span, byte_at, byte_of, bytes_of, number, table}
 use Rattle.number.proofs.Bytes.{get_d-table}
 use Rattle.number.proofs.Tests.{true_false, two, pick_true, pick_false, lt_or_le}
 use Rattle.isa.specs.State.{start, lanes_of}
 use Rattle.isa.specs.Effect.{Effect, new_lane, applied}
 use Rattle.isa.specs.Mac16.{Form, vector, matrix16, matrix32, z_width, i_of, j_of}
 use Rattle.state.specs.Rows.{among, place_in, lane_sum, run_sum}
-use Rattle.state.proofs.Holds.{Bytes, lane_after, Holds}
+use Rattle.state.proofs.Holds.{Bytes, lane_after, Holds, bytes-applied}
 use Rattle.state.proofs.RunLoop.{in-run, among-yes, among-before, among-after}
 use Rattle.state.proofs.RowsLoop.{Below, rows-skip, rows_more, same-lanes}
 use Rattle.mac16.specs.Products.{term, row_terms, split, row_on, products}
@@ -33,6 +34,35 @@ term-at b m s xs ys l h =
     get_d-table f 0 0 m l h ∙ ap f (zero-add l)
 
 -- ---- rows of a run
+
+-- bytes, where an effect may be applied to them
+pub bytes-if : (b : Bool) (e : Effect) (s : List ℕ) {t : List ℕ} → Bytes s → t ≡ cond b (applied e s) s → Bytes t
+bytes-if b e s small et = subst Bytes (sym et) (by b)
+  where
+    by : (b : Bool) → Bytes (cond b (applied e s) s)
+    by true = bytes-applied e s small
+    by false = small
+
+-- bytes, where those of a number are put
+pub bytes-put : (s : List ℕ) (at b n : ℕ) {t : List ℕ} → Bytes s → t ≡ sets s at (bytes_of b n) → Bytes t
+unfolding table byte_of
+bytes-put s at b n small et = subst Bytes (sym et) (puts (bytes_of b n) s at (of-number b 0) small)
+  where
+    of-number : (b d : ℕ) → Bytes (table (byte_of n) d b)
+    of-number zero d p = omega arith
+    of-number (suc b) d zero = omega arith
+    of-number (suc b) d (suc p) = of-number b (suc d) p
+
+    put : (l : List ℕ) (i a : ℕ) → a < 256 → Bytes l → Bytes (set l i a)
+    put [] i a h small p = small p
+    put (x ∷ l) zero a h small zero = h
+    put (x ∷ l) zero a h small (suc p) = small (suc p)
+    put (x ∷ l) (suc i) a h small zero = small zero
+    put (x ∷ l) (suc i) a h small (suc p) = put l i a h (λ q. small (suc q)) p
+
+    puts : (vs l : List ℕ) (i : ℕ) → Bytes vs → Bytes l → Bytes (sets l i vs)
+    puts [] l i each small = small
+    puts (v ∷ vs) l i each small = puts vs (set l i v) (suc i) (λ p. each (suc p)) (put l i v (each zero) small)
 
 module _ (form : Form) (z_row : ℕ) (xs : List ℤ) (on : List Bool) (ys : List ℤ) (yon : List Bool) (s : ℕ) (keep : Bool) (s₀ : List ℕ) where
   -- a row of the run that the form writes, with the terms and the mask of the run

@@ -7,23 +7,14 @@ use Prim.Native.Nat.{ℕ, ◌+◌, ◌*◌, ◌/◌, ◌%◌, ◌<◌}
 use native.Mathlib.Nat.{zero-add}
 use lib.IntN.{ℤ, pos}
 use native.Mathlib.Omega.{arith}
-use lib.ListN.{get_or, replicate, length-replicate, get_or-replicate}
-use lib.Seq.{ext_get_or}
-use Rattle.number.proofs.Bytes.{length-table, get_d-table, table_same}
+use lib.ListN.{get_or}
+use Rattle.number.proofs.Bytes.{get_d-table, table_same}
 use Rattle.number.proofs.Tests.{pick_true, pick_false}
 use Rattle.isa.specs.Mac16 as Mac16
 use Rattle.number.specs.Bytes.{byte_at, table}
 use Rattle.isa.specs.Operand.{bits, bit}
 use Rattle.isa.specs.State.{x_base, y_base}
 use Rattle.mac16.specs.Products.{side, masked, other_than_x, loaded_bytes, split, x_side, y_factors}
-
--- a list of one number
-pub same-all : (n : ℕ) (other : ℤ) → replicate n other ≡ table (λ i. other) 0 n
-same-all n other =
-    ext_get_or (pos 0) (replicate n other) (table (λ i. other) 0 n) (length-replicate n other ∙ sym (length-table (λ i. other) 0 n))
-    (λ i h.
-    let l : i < n = omega (arith, length-replicate n other) in
-    get_or-replicate n i other (pos 0) l ∙ sym (get_d-table (λ i. other) (pos 0) 0 n i l))
 
 -- a side, by the branches of the code
 module _ (i8 skip : Bool) (other : ℤ) (bytes : List ℕ) where

@@ -3,8 +3,8 @@
 use mathlib.Core.Path.{◌≡◌, sym, ap, ◌∙◌}
 use mathlib.Core.Bool.{Bool, false, cond, not, ◌&&◌, ◌||◌}
 use mathlib.Core.List.{List}
-use Prim.Native.Nat.{ℕ, ◌*◌, ◌/◌, ◌%◌, ◌≤◌, ◌<◌}
-use native.Mathlib.Nat.{mod-eq_of_lt, mul-le-mul}
+use Prim.Native.Nat.{ℕ, ◌*◌, ◌/◌, ◌%◌, ◌<◌}
+use native.Mathlib.Nat.{mod-eq_of_lt}
 use native.Mathlib.Omega.{arith}
 use lib.Dec.{eqb}
 use lib.IntN.{ℤ}
@@ -43,9 +43,9 @@ module _ (op : ℕ) (s t : List ℕ) (on : List Bool) (xs ys : List ℤ) (sh : �
   factors = ex ∙ ap (x_factors op s) eo
 
   pub vector-is : (z : ℕ) → length s ≡ 5120 → Bytes s → z ≡ bits op 20 25
-      → t ≡ cond (eqb (length s) 5120) (applied (run_sum 2 z 1 (row_terms 2 32 (sh % 32) xs ys) on keep) s) s → t ≡ applied (products_of vector op s) s
+      → t ≡ applied (run_sum 2 z 1 (row_terms 2 32 (sh % 32) xs ys) on keep) s → t ≡ applied (products_of vector op s) s
   vector-is z size bytes ez et =
-      et ∙ pick_true _ _ (eq-eqb (length s) 5120 size)
+      et
       ∙ (λ i. applied (run_sum 2 (ez i) 1 (row_terms 2 32 (shift i) (factors i) (ey i)) (eo i) (ek i)) s)
       ∙ vector_row (bits op 20 25) (x_factors op s (x_mask op)) (x_mask op) (y_factors op s) (y_mask op) (bits op 55 59) (not (bit op 27)) s size bytes
 
@@ -67,10 +67,6 @@ module _ (op : ℕ) (s t : List ℕ) (on : List Bool) (xs ys : List ℤ) (sh : �
     matrix32-is et = et ∙ (λ i. applied (products matrix32 (Mac16.z_row op) (factors i) (eo i) (ey i) (en i) (shift i) (ek i)) s)
 
 -- ---- counts
-
--- two counts of 64 lanes at most
-pub below-product : (r q : ℕ) → r ≤ 64 → q ≤ 64 → r * q ≤ 4096
-below-product r q h l = mul-le-mul h l
 
 -- the bytes of a form's lanes
 form_bytes : (form : Form) (op n : ℕ) → n ≡ lanes_on (Mac16.effect form op) → n * Mac16.z_width form ≡ bytes_on (Mac16.effect form op)
@@ -97,9 +93,13 @@ module _ (op x r : ℕ) (ex : x ≡ mask_of (Mac16.x_enabled op) 64) where
 -- ---- the step, by the form
 
 module _ (op : ℕ) (s t : List ℕ) (r : ℕ) (size : length s ≡ 5120) (bytes : Bytes s) where
-  pub by_form : (form : Form) → form_of op ≡ form → (t ≡ applied (products_of form op s) s) × (r ≡ bytes_on (Mac16.effect form op))
+  pub by_form : (w : List ℕ) → w ≡ s → (form : Form) → form_of op ≡ form → (t ≡ applied (products_of form op w) w) × (r ≡ bytes_on (Mac16.effect form op))
       → (t ≡ cond (eqb (length s) 5120) (applied (Mac16.mac16 op) s) s) × (r ≡ cond (eqb (length s) 5120) (bytes_on (Mac16.mac16 op)) 0)
-  by_form form e h = (
-    h.0 ∙ meant op s bytes form size ∙ ap (λ (f : Form). applied (Mac16.effect f op) s) (sym e) ∙ sym (pick_true _ _ (eq-eqb (length s) 5120 size)),
+  by_form w same form e h = (
+    h.0
+        ∙ ap (λ (x : List ℕ). applied (products_of form op x) x) same
+        ∙ meant op s bytes form size
+        ∙ ap (λ (f : Form). applied (Mac16.effect f op) s) (sym e)
+        ∙ sym (pick_true _ _ (eq-eqb (length s) 5120 size)),
     h.1 ∙ ap (λ (f : Form). bytes_on (Mac16.effect f op)) (sym e) ∙ sym (pick_true _ _ (eq-eqb (length s) 5120 size)),
   )

@@ -5,6 +5,7 @@ ghost use Rattle.std.specs.Prelude.{◌≡◌, true, false, cond, not, ◌+◌, 
 ghost use Rattle.number.specs.Bytes.{byte_at, table};
 ghost use Rattle.isa.specs.Operand.{bits, bit};
 ghost use Rattle.isa.specs.State.{register_bytes};
+ghost use Rattle.isa.specs.Enable.{mac16_enables};
 ghost use Rattle.isa.specs.Effect.{applied, bytes_on, count};
 ghost use Rattle.isa.specs.Mac16 as Mac16;
 ghost use Rattle.isa.specs.Mac16.{vector, matrix16, matrix32};
@@ -12,27 +13,35 @@ ghost use Rattle.state.specs.Rows.{run_sum};
 ghost use Rattle.masks.specs.Mask.{mask_of};
 ghost use Rattle.mac16.specs.Products.{side, masked, other_than_x, term, row_terms, split, products, x_side, x_factors, y_factors, products_of};
 
+use number::{Integer, Lane};
+
 // ---- factors
+
+// The 32 factors of a side, and its enabled lanes.
+#[derive(Drop)]
+struct Side {
+    lanes: [i16; 32],
+    on: [bool; 32],
+}
+
+// What becomes of a product: shifted to the right and added to Z or, where `keep` is false, put in its place.
+#[derive(Clone, Copy)]
+struct Sum {
+    shift: u32,
+    keep: bool,
+}
 
 // The 32 lanes of 64 bytes, as i16 and as the i8 in the low byte of each.
 fn lanes16(bytes: &[u8; 64]) -> [i16; 32]
     ensures { result ≡ table (Mac16.lane false (byte_at bytes.now)) 0 32 }
 {
-    let mut out = [0i16; 32];
-    for i in 0..32 {
-        out[i] = number::signed16(number::pair(bytes[2 * i], bytes[2 * i + 1]));
-    }
-    out
+    std::array::from_fn(|i| u16::load(bytes, 2 * i).cast_signed())
 }
 
 fn lanes8(bytes: &[u8; 64]) -> [i16; 32]
     ensures { result ≡ table (Mac16.lane true (byte_at bytes.now)) 0 32 }
 {
-    let mut out = [0i16; 32];
-    for i in 0..32 {
-        out[i] = number::signed8(bytes[2 * i]);
-    }
-    out
+    std::array::from_fn(|i| i16::from(u8::load(bytes, 2 * i).cast_signed()))
 }
 
 // The 32 numbers of a side.
@@ -42,10 +51,7 @@ fn side_of(bytes: &[u8; 64], byte: bool, skip: bool, other: i16) -> [i16; 32]
     if skip {
         return [other; 32];
     }
-    if byte {
-        return lanes8(bytes);
-    }
-    lanes16(bytes)
+    if byte { lanes8(bytes) } else { lanes16(bytes) }
 }
 
 fn kept_if(x: i16, on: bool) -> i16
@@ -57,55 +63,44 @@ fn kept_if(x: i16, on: bool) -> i16
 fn masked_by(on: &[bool; 32], xs: &[i16; 32]) -> [i16; 32]
     ensures { result ≡ masked on.now xs.now }
 {
-    let mut out = [0i16; 32];
-    for i in 0..32 {
-        out[i] = kept_if(xs[i], on[i]);
-    }
-    out
+    std::array::from_fn(|i| kept_if(xs[i], on[i]))
 }
 
 // ---- terms
 
-fn term16(x: i16, y: i16, s: u32) -> u16
-    ensures { result ≡ term 2 (s % 32) x y }
+fn term<T: Integer>(x: i16, y: i16, s: u32) -> T
+    ensures { T.bits result ≡ term T.BYTES (s % 32) x y }
 {
-    number::wrapped16(number::shifted(number::product16(x, y), s))
-}
-
-fn term32(x: i16, y: i16, s: u32) -> u32
-    ensures { result ≡ term 4 (s % 32) x y }
-{
-    number::wrapped32(number::shifted(number::product16(x, y), s))
+    T::wrapped(number::shifted(number::product16(x, y), s))
 }
 
 fn terms16(xs: &[i16; 32], ys: &[i16; 32], s: u32) -> [u16; 32]
     ensures { result ≡ row_terms 2 32 (s % 32) xs.now ys.now }
 {
-    let mut out = [0u16; 32];
-    for i in 0..32 {
-        out[i] = term16(xs[i], ys[i], s);
-    }
-    out
+    std::array::from_fn(|i| term(xs[i], ys[i], s))
 }
 
 // ---- what an operand says
 
+// The lanes that an enable value, of 5 bits, and the mode of 2 bits above it enable.
+fn enabled(op: u64, at: u32) -> u64
+    requires { at < 64 }
+    ensures { result ≡ mask_of (mac16_enables 32 (bits op (at + 5) (at + 6)) (bits op at (at + 4))) 64 }
+{
+    let mode = operand::field(op, at + 5, at + 6);
+    masks::mac16_mask(32, mode, operand::field(op, at, at + 4))
+}
+
 fn x_mask(op: u64) -> u64
     ensures { result ≡ mask_of (Mac16.x_enabled op) 64 }
 {
-    masks::mac16_mask(32, operand::field(op, 46, 47), operand::field(op, 41, 45))
+    enabled(op, 41)
 }
 
 fn y_mask(op: u64) -> u64
     ensures { result ≡ mask_of (Mac16.y_enabled op) 64 }
 {
-    masks::mac16_mask(32, operand::field(op, 37, 38), operand::field(op, 32, 36))
-}
-
-fn shift(op: u64) -> u32
-    ensures { (result ≡ bits op 55 59) × (result < 32) }
-{
-    operand::field(op, 55, 59) as u32
+    enabled(op, 32)
 }
 
 fn z_row(op: u64) -> usize
@@ -114,10 +109,13 @@ fn z_row(op: u64) -> usize
     operand::field(op, 20, 25) as usize
 }
 
-fn keeps_z(op: u64) -> bool
-    ensures { result ≡ not (bit op 27) }
+fn sum_of(op: u64) -> Sum
+    ensures { (result.shift ≡ bits op 55 59) × (result.shift < 32) × (result.keep ≡ not (bit op 27)) }
 {
-    !operand::flag(op, 27)
+    Sum {
+        shift: operand::field(op, 55, 59) as u32,
+        keep: !operand::flag(op, 27),
+    }
 }
 
 fn other_than_x(op: u64) -> i16
@@ -154,159 +152,90 @@ fn y_factors(state: &[u8], op: u64) -> [i16; 32]
 
 // ---- rows
 
-fn row16(
-    state: &mut [u8],
-    row: usize,
-    xs: &[i16; 32],
-    ys: &[i16; 32],
-    on: &[bool; 32],
-    s: u32,
-    keep: bool,
-)
-    ensures { state.new ≡ cond (eqb (length state.old) register_bytes)
-        (applied (run_sum 2 row 1 (row_terms 2 32 (s % 32) xs.now ys.now)
-        on.now keep) state.old) state.old }
+fn row16(state: &mut [u8; 5120], row: usize, x: &Side, ys: &[i16; 32], sum: Sum)
+    ensures { state.new ≡ applied (run_sum 2 row 1 (row_terms 2 32 (sum.shift % 32) x.now.lanes ys.now) x.now.on sum.keep) state.old }
 {
-    let terms = terms16(xs, ys, s);
-    state::sum_row16(state, row, &terms, on, keep);
+    let terms = terms16(&x.lanes, ys, sum.shift);
+    state::sum_row16(state, row, &terms, &x.on, sum.keep);
 }
 
 // Rows 2 j and 2 j + 1 of 32-bit lanes. One loop makes the terms, masked, and adds them: the compiler unrolls shorter ones, and does one lane at a time.
-fn pair32(
-    state: &mut [u8],
-    j: usize,
-    xs: &[i16; 32],
-    ys: &[i16; 32],
-    on: &[bool; 32],
-    s: u32,
-    keep: bool,
-)
-    ensures { state.new ≡ cond (eqb (length state.old) register_bytes)
-        (applied (run_sum 4 (j * 2) 2 (row_terms 4 32 (s % 32) (masked on.now xs.now) ys.now)
-        on.now keep) state.old) state.old }
+fn pair32(state: &mut [u8; 5120], j: usize, x: &Side, ys: &[i16; 32], sum: Sum)
+    requires { j < 32 }
+    ensures { state.new ≡ applied (run_sum 4 (j * 2) 2 (row_terms 4 32 (sum.shift % 32) (masked x.now.on x.now.lanes) ys.now)
+        x.now.on sum.keep) state.old }
 {
-    if state.len() != 5120 {
-        return;
-    }
-    if 32 <= j {
-        return;
-    }
     let row = j * 2;
     for i in 0..32 {
-        let term = term32(kept_if(xs[i], on[i]), ys[i], s);
-        state::sum_lane32(state, 1024 + (row * 64 + i * 4), term, on[i], keep);
+        let term: u32 = term(kept_if(x.lanes[i], x.on[i]), ys[i], sum.shift);
+        state::sum_lane(state, 1024 + (row * 64 + i * 4), term, x.on[i], sum.keep);
     }
 }
 
 // Row 2 j + p of matrix 16, where Y lane j is enabled.
-fn matrix16_row(
-    state: &mut [u8],
-    j: usize,
-    p: usize,
-    xs: &[i16; 32],
-    on: &[bool; 32],
-    ys: &[i16; 32],
-    yon: &[bool; 32],
-    s: u32,
-    keep: bool,
-)
-    requires { (length state.old ≡ register_bytes) × (j < 32) × (p < 2) }
-    ensures { state.new ≡ cond (get_or yon.now j false)
-        (applied (run_sum 2 (2 * j + p) 1 (row_terms 2 32 (s % 32) xs.now (replicate 32 (get_or ys.now j (pos 0))))
-        on.now keep) state.old)
+fn matrix16_row(state: &mut [u8; 5120], j: usize, p: usize, x: &Side, y: &Side, sum: Sum)
+    requires { (j < 32) × (p < 2) }
+    ensures { state.new ≡ cond (get_or y.now.on j false)
+        (applied (run_sum 2 (2 * j + p) 1 (row_terms 2 32 (sum.shift % 32) x.now.lanes (replicate 32 (get_or y.now.lanes j (pos 0))))
+        x.now.on sum.keep) state.old)
         state.old }
 {
-    if !yon[j] {
+    if !y.on[j] {
         return;
     }
-    let y = ys[j];
-    let same = [y; 32];
-    row16(state, 2 * j + p, xs, &same, on, s, keep);
+    let same = [y.lanes[j]; 32];
+    row16(state, 2 * j + p, x, &same, sum);
 }
 
-fn matrix16(
-    state: &mut [u8],
-    p: usize,
-    xs: &[i16; 32],
-    on: &[bool; 32],
-    ys: &[i16; 32],
-    yon: &[bool; 32],
-    s: u32,
-    keep: bool,
-)
-    requires { (length state.old ≡ register_bytes) × (p < 2) }
+fn matrix16(state: &mut [u8; 5120], p: usize, x: &Side, y: &Side, sum: Sum)
+    requires { p < 2 }
     ensures { state.new ≡
-        applied (products Mac16.matrix16 p xs.now on.now ys.now yon.now (s % 32) keep) state.old }
+        applied (products Mac16.matrix16 p x.now.lanes x.now.on y.now.lanes y.now.on (sum.shift % 32) sum.keep) state.old }
 {
     for j in 0..32 {
-        matrix16_row(state, j, p, xs, on, ys, yon, s, keep);
+        matrix16_row(state, j, p, x, y, sum);
     }
 }
 
 // The even X lanes and then the odd ones, as the two rows of a pair have them; the same for their mask.
-fn split_lanes(xs: &[i16; 32]) -> [i16; 32]
-    ensures { result ≡ split (pos 0) xs.now }
+fn split<T: Copy>(xs: &[T; 32]) -> [T; 32]
+    ensures { (d : T) → result ≡ split d xs.now }
 {
-    let mut out = [0i16; 32];
-    for k in 0..32 {
-        out[k] = xs[2 * (k % 16) + k / 16];
-    }
-    out
+    std::array::from_fn(
+        |k| -> T
+            requires { k < 32 }
+            ensures { (d : T) → result ≡ get_or xs.entry.now (2 * (k % 16) + k / 16) d }
+        { xs[2 * (k % 16) + k / 16] },
+    )
 }
 
-fn split_mask(on: &[bool; 32]) -> [bool; 32]
-    ensures { result ≡ split false on.now }
-{
-    let mut out = [false; 32];
-    for k in 0..32 {
-        out[k] = on[2 * (k % 16) + k / 16];
-    }
-    out
-}
-
-// Rows 2 j and 2 j + 1 of matrix 32, where Y lane j is enabled; xs and on are split, and xs not masked.
-fn matrix32_pair(
-    state: &mut [u8],
-    j: usize,
-    xs: &[i16; 32],
-    on: &[bool; 32],
-    ys: &[i16; 32],
-    yon: &[bool; 32],
-    s: u32,
-    keep: bool,
-)
-    requires { (length state.old ≡ register_bytes) × (j < 32) }
-    ensures { state.new ≡ cond (get_or yon.now j false)
-        (applied (run_sum 4 (j * 2) 2 (row_terms 4 32 (s % 32) (masked on.now xs.now) (replicate 32 (get_or ys.now j (pos 0))))
-        on.now keep) state.old)
+// Rows 2 j and 2 j + 1 of matrix 32, where Y lane j is enabled; x is split, and not masked.
+fn matrix32_pair(state: &mut [u8; 5120], j: usize, x: &Side, y: &Side, sum: Sum)
+    requires { j < 32 }
+    ensures { state.new ≡ cond (get_or y.now.on j false)
+        (applied (run_sum 4 (j * 2) 2 (row_terms 4 32 (sum.shift % 32) (masked x.now.on x.now.lanes) (replicate 32 (get_or y.now.lanes j (pos 0))))
+        x.now.on sum.keep) state.old)
         state.old }
 {
-    if !yon[j] {
+    if !y.on[j] {
         return;
     }
-    let y = ys[j];
-    let same = [y; 32];
-    pair32(state, j, xs, &same, on, s, keep);
+    let same = [y.lanes[j]; 32];
+    pair32(state, j, x, &same, sum);
 }
 
-fn matrix32(
-    state: &mut [u8],
-    xs: &[i16; 32],
-    on: &[bool; 32],
-    ys: &[i16; 32],
-    yon: &[bool; 32],
-    s: u32,
-    keep: bool,
-)
-    requires { length state.old ≡ register_bytes }
+// No twin of matrix16: the two rows of a pair are one loop here, over lanes that are split and masked there.
+fn matrix32(state: &mut [u8; 5120], x: &Side, y: &Side, sum: Sum)
     ensures { state.new ≡
-        applied (products Mac16.matrix32 0 (masked on.now xs.now)
-        on.now ys.now yon.now (s % 32) keep) state.old }
+        applied (products Mac16.matrix32 0 (masked x.now.on x.now.lanes)
+        x.now.on y.now.lanes y.now.on (sum.shift % 32) sum.keep) state.old }
 {
-    let lanes = split_lanes(xs);
-    let mask = split_mask(on);
+    let halves = Side {
+        lanes: split(&x.lanes),
+        on: split(&x.on),
+    };
     for j in 0..32 {
-        matrix32_pair(state, j, &lanes, &mask, ys, yon, s, keep);
+        matrix32_pair(state, j, &halves, y, sum);
     }
 }
 
@@ -320,55 +249,55 @@ fn matrix_bytes(x: u64, y: u64, width: u64) -> u64
     masks::count_first(x, 32) * masks::count_first(y, 32) * width
 }
 
-fn vector_step(state: &mut [u8], op: u64) -> u64
-    requires { length state.old ≡ register_bytes }
+fn vector_step(state: &mut [u8; 5120], op: u64) -> u64
     ensures { (state.new ≡ applied (products_of Mac16.vector op state.old) state.old)
         × (result ≡ bytes_on (Mac16.effect Mac16.vector op)) }
 {
     let x = x_mask(op);
-    let on = masks::lanes32(x);
-    let xs = x_factors(state, op, &on);
+    let on = masks::lanes(x);
+    let xs = Side {
+        lanes: x_factors(state, op, &on),
+        on,
+    };
     let ys = y_factors(state, op);
-    row16(state, z_row(op), &xs, &ys, &on, shift(op), keeps_z(op));
+    row16(state, z_row(op), &xs, &ys, sum_of(op));
     masks::count_first(x, 32) * 2
 }
 
-fn matrix16_step(state: &mut [u8], op: u64) -> u64
-    requires { length state.old ≡ register_bytes }
+fn matrix16_step(state: &mut [u8; 5120], op: u64) -> u64
     ensures { (state.new ≡ applied (products_of Mac16.matrix16 op state.old) state.old)
         × (result ≡ bytes_on (Mac16.effect Mac16.matrix16 op)) }
 {
     let x = x_mask(op);
-    let on = masks::lanes32(x);
-    let xs = x_factors(state, op, &on);
-    let ys = y_factors(state, op);
+    let on = masks::lanes(x);
+    let xs = Side {
+        lanes: x_factors(state, op, &on),
+        on,
+    };
     let y = y_mask(op);
-    let yon = masks::lanes32(y);
-    matrix16(
-        state,
-        z_row(op) % 2,
-        &xs,
-        &on,
-        &ys,
-        &yon,
-        shift(op),
-        keeps_z(op),
-    );
+    let ys = Side {
+        lanes: y_factors(state, op),
+        on: masks::lanes(y),
+    };
+    matrix16(state, z_row(op) % 2, &xs, &ys, sum_of(op));
     matrix_bytes(x, y, 2)
 }
 
-fn matrix32_step(state: &mut [u8], op: u64) -> u64
-    requires { length state.old ≡ register_bytes }
+fn matrix32_step(state: &mut [u8; 5120], op: u64) -> u64
     ensures { (state.new ≡ applied (products_of Mac16.matrix32 op state.old) state.old)
         × (result ≡ bytes_on (Mac16.effect Mac16.matrix32 op)) }
 {
     let x = x_mask(op);
-    let on = masks::lanes32(x);
-    let xs = x_side(state, op);
-    let ys = y_factors(state, op);
+    let xs = Side {
+        lanes: x_side(state, op),
+        on: masks::lanes(x),
+    };
     let y = y_mask(op);
-    let yon = masks::lanes32(y);
-    matrix32(state, &xs, &on, &ys, &yon, shift(op), keeps_z(op));
+    let ys = Side {
+        lanes: y_factors(state, op),
+        on: masks::lanes(y),
+    };
+    matrix32(state, &xs, &ys, sum_of(op));
     matrix_bytes(x, y, 4)
 }
 
@@ -378,14 +307,14 @@ pub fn step(state: &mut [u8], op: u64) -> u64
         (applied (Mac16.mac16 op) state.old) state.old)
         × (result ≡ cond (eqb (length state.old) register_bytes) (bytes_on (Mac16.mac16 op)) 0) }
 {
-    if state.len() != 5120 {
+    let Some(registers) = state.as_mut_array() else {
         return 0;
-    }
+    };
     if operand::flag(op, 63) {
-        return vector_step(state, op);
+        return vector_step(registers, op);
     }
     if operand::flag(op, 62) {
-        return matrix32_step(state, op);
+        return matrix32_step(registers, op);
     }
-    matrix16_step(state, op)
+    matrix16_step(registers, op)
 }

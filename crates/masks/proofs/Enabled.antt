@@ -43,9 +43,6 @@ last-is lanes n m h e =
     (lt_or_le k (lanes - n)))
 
 -- one lane by a shift, and all before it
-pub some_lane : (n : ℕ) → n < 64 → 1 ≤ 1 * 2 ^ n % 2 ^ 64
-some_lane n h = omega (arith, shifted n 64 h, pow_pos n)
-
 pub first-is : (n : ℕ) → n < 64 → 1 * 2 ^ n % 2 ^ 64 - 1 ≡ mask_of (first n) 64
 first-is n h = ap (λ (x : ℕ). x - 1) (shifted n 64 h) ∙ mask_first n 64 (omega arith)
 
@@ -56,21 +53,19 @@ only_is n h = shifted n 64 h ∙ mask_only n 64 h
 pub only_none : (n : ℕ) → 64 ≤ n → 0 ≡ mask_of (λ k. eqb k n) 64
 only_none n h = mask_none 64 ∙ mask_same _ _ 64 (λ k l. sym (ne_eqb k n (λ e. omega (arith, e))))
 
--- a rule for n lanes, where 0 would be all
-pub not_all : (f : ℕ → Bool) (n : ℕ) → (n ≡ 0 → ⊥) → mask_of f 64 ≡ mask_of (λ k. eqb n 0 || f k) 64
-not_all f n h = ap (λ (b : Bool). mask_of (λ k. b || f k) 64) (sym (ne_eqb n 0 h))
+-- of none of the numbers up to b
+pub differs : (n b : ℕ) → b < n → eqb n b ≡ false
+differs n b h = ne_eqb n b (λ e. omega (arith, e))
 
--- in mode m, by what the rule is there
-pub in_mode : (rule : ℕ → ℕ → Bool) (m : ℕ) (g : ℕ → Bool) → ((k : ℕ) → g k ≡ rule m k) → (mode : ℕ) → mode ≡ m → mask_of g 64 ≡ mask_of (rule mode) 64
-in_mode rule m g h mode e = mask_same _ _ 64 (λ k l. h k ∙ ap (λ (x : ℕ). rule x k) (sym e))
+-- mac16's modes
+pub mac16-mode : (lanes n : ℕ) {mode m : ℕ} → mode ≡ m → mask_of (mac16_enables lanes m n) 64 ≡ mask_of (mac16_enables lanes mode n) 64
+mac16-mode lanes n e = ap (λ (m : ℕ). mask_of (mac16_enables lanes m n) 64) (sym e)
 
--- mac16's other modes
-pub mac16-mode_3 : (lanes mode n : ℕ) → (mode ≡ 0 → ⊥) → (mode ≡ 1 → ⊥) → (mode ≡ 2 → ⊥)
-    → mask_of (last_or_all lanes n) 64 ≡ mask_of (mac16_enables lanes mode n) 64
+pub mac16-mode_3 : (lanes mode n : ℕ) → 3 ≤ mode → mask_of (last_or_all lanes n) 64 ≡ mask_of (mac16_enables lanes mode n) 64
 unfolding mac16_enables
-mac16-mode_3 lanes mode n not0 not1 not2 =
+mac16-mode_3 lanes mode n h =
     mask_same _ _ 64
-    (λ k l. sym (pick_false _ _ (ne_eqb mode 0 not0) ∙ pick_false _ _ (ne_eqb mode 1 not1) ∙ pick_false _ _ (ne_eqb mode 2 not2)))
+    (λ k l. sym (pick_false _ _ (differs mode 0 (omega arith)) ∙ pick_false _ _ (differs mode 1 (omega arith)) ∙ pick_false _ _ (differs mode 2 h)))
 
 -- ---- by parity
 
@@ -91,16 +86,10 @@ even_is halved m e =
     by (suc zero) h = refl
     by (suc (suc d)) h = absurd (omega arith)
 
--- in the value's order, and what is said for other values
+-- in the value's order
 pub by_value : (n v : ℕ) (other halved : Bool) → n ≡ v
     → mask_of (λ k. by_parity v other (lane_used halved k)) 64 ≡ mask_of (λ k. by_parity n other (lane_used halved k)) 64
 by_value n v other halved e = ap (λ (x : ℕ). mask_of (λ k. by_parity x other (lane_used halved k)) 64) (sym e)
-
-pub other_value : (n : ℕ) (other halved : Bool) → (n ≡ 0 → ⊥) → (n ≡ 1 → ⊥) → (n ≡ 2 → ⊥)
-    → mask_of (λ k. other) 64 ≡ mask_of (λ k. by_parity n other (lane_used halved k)) 64
-other_value n other halved not0 not1 not2 =
-    mask_same _ _ 64
-    (λ k h. sym (pick_false _ _ (ne_eqb n 0 not0) ∙ pick_false _ _ (ne_eqb n 1 not1) ∙ pick_false _ _ (ne_eqb n 2 not2)))
 
 -- ---- a rule for the lane that k uses, as one for k
 

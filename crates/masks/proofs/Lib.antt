@@ -1,4 +1,4 @@
 pub mod Mask
-pub mod Lanes
+pub mod Bools
 pub mod Enabled
 pub mod Vecint

@@ -3,7 +3,7 @@
 use mathlib.Core.Path.{◌≡◌, refl, sym, ap, ap₂, subst, ◌∙◌}
 use mathlib.Core.Bool.{Bool, true, false, cond, not, ◌&&◌}
 use mathlib.Core.Logic.{⊎_elim}
-use Prim.Native.Nat.{ℕ, zero, suc, ◌+◌, ◌-◌, ◌*◌, ◌/◌, ◌%◌, ◌^◌, ◌≤◌, ◌<◌}
+use Prim.Native.Nat.{ℕ, zero, suc, ◌+◌, ◌-◌, ◌*◌, ◌/◌, ◌%◌, ◌^◌, min, ◌≤◌, ◌<◌}
 use native.Mathlib.Nat.{pow-suc, mod-lt, mod-eq_of_lt, mod-one, lt_of_le_of_lt, mul-one, one-mul}
 use native.Mathlib.Numerals.{one-add}
 use native.Mathlib.Omega.{arith}
@@ -12,7 +12,7 @@ use lib.Pow.{pow_pos, low, high, field, mod-pow-add, mod-mod-pow, shl_exact}
 use lib.Bits.{bit_and, and_block, and_mask, and_le_r}
 use lib.Count.{ones, ones_cat, ones-le}
 use borrow.Author.Tests.{lt-ltb, le-ltb, eqb-true}
-use Rattle.number.proofs.Tests.{two, lt_or_le, pick_false}
+use Rattle.number.proofs.Tests.{two, lt_or_le, pick_true, pick_false}
 use Rattle.isa.specs.Operand.{bits, bit}
 use Rattle.isa.specs.Effect.{sum, count}
 use Rattle.isa.proofs.Count.{sum-cong, sum-add, sum-plus, sum-const, sum_one, none}
@@ -191,6 +191,14 @@ pub shifted : (n w : ℕ) → n < w → 1 * 2 ^ n % 2 ^ w ≡ 2 ^ n
 shifted n w h = shl_exact {a = 1} 1 n w (omega arith) (omega arith) ∙ one-mul (2 ^ n)
 
 -- ---- counts
+
+-- as many lanes as there are places for
+pub at_most_64 : (n : ℕ) → min n 64 ≡ cond (ltb n 64) n 64
+at_most_64 n =
+    ⊎_elim
+    (λ less. omega arith ∙ sym (pick_true _ _ (lt-ltb n 64 less)))
+    (λ more. omega arith ∙ sym (pick_false _ _ (le-ltb n 64 more)))
+    (lt_or_le n 64)
 
 -- as the code counts: all of the first lanes, or by a mask of them
 pub counted-all : (m n : ℕ) → n ≤ 64 → m ≡ 2 ^ 64 - 1 → n ≡ count (bit m) n

@@ -19,7 +19,7 @@ use Rattle.operand.proofs.Lanes.{lanes-by}
 use Rattle.operand.proofs.Widths.{OneOrTwo, one-two_or_four, by-widths, x_cases, y_cases, z_width_cases}
 use Rattle.masks.specs.Mask.{mask_of, lane_used, mask_at, enables_all}
 use Rattle.masks.proofs.Mask.{mask_same, mask_none, mask_and}
-use Rattle.masks.proofs.Enabled.{all-is}
+use Rattle.masks.proofs.Enabled.{all-is, differs}
 
 -- ---- by the mode
 
@@ -27,15 +27,18 @@ module _ (lanes n : ℕ) (halved : Bool) where
   abbrev pub rule : ℕ → ℕ → Bool
   rule mode k = vecint_enables lanes mode n (lane_used halved k)
 
-  pub in-no-mode : (mode : ℕ) → (mode ≡ 0 → ⊥) → (mode ≡ 1 → ⊥) → (mode ≡ 2 → ⊥) → (mode ≡ 3 → ⊥) → (mode ≡ 4 → ⊥) → (mode ≡ 5 → ⊥)
-      → 0 ≡ mask_of (rule mode) 64
+  -- what a mode's rule makes, where the mode is known
+  pub in-mode : (m : ℕ) (g : ℕ → Bool) → ((k : ℕ) → g k ≡ rule m k) → {mode : ℕ} → mode ≡ m → mask_of g 64 ≡ mask_of (rule mode) 64
+  in-mode m g h e = mask_same _ _ 64 (λ k l. h k ∙ ap (λ (x : ℕ). rule x k) (sym e))
+
+  pub in-no-mode : (mode : ℕ) → 6 ≤ mode → 0 ≡ mask_of (rule mode) 64
   unfolding vecint_enables
-  in-no-mode mode not0 not1 not2 not3 not4 not5 =
+  in-no-mode mode h =
       mask_none 64
       ∙ mask_same _ _ 64
       (λ k l.
-      sym (pick_false _ _ (ne_eqb mode 0 not0) ∙ pick_false _ _ (ne_eqb mode 1 not1) ∙ pick_false _ _ (ne_eqb mode 2 not2)
-      ∙ pick_false _ _ (ne_eqb mode 3 not3) ∙ pick_false _ _ (ne_eqb mode 4 not4) ∙ pick_false _ _ (ne_eqb mode 5 not5)))
+      sym (pick_false _ _ (differs mode 0 (omega arith)) ∙ pick_false _ _ (differs mode 1 (omega arith)) ∙ pick_false _ _ (differs mode 2 (omega arith))
+      ∙ pick_false _ _ (differs mode 3 (omega arith)) ∙ pick_false _ _ (differs mode 4 (omega arith)) ∙ pick_false _ _ (differs mode 5 h)))
 
 -- ---- all lanes
 

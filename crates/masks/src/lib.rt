@@ -49,19 +49,13 @@ fn last(lanes: u64, n: u64) -> u64
 fn first_or_all(n: u64) -> u64
     ensures { result ≡ mask_of (first_or_all n) 64 }
 {
-    if n == 0 {
-        return ALL;
-    }
-    first(n)
+    if n == 0 { ALL } else { first(n) }
 }
 
 fn last_or_all(lanes: u64, n: u64) -> u64
     ensures { result ≡ mask_of (last_or_all lanes n) 64 }
 {
-    if n == 0 {
-        return ALL;
-    }
-    last(lanes, n)
+    if n == 0 { ALL } else { last(lanes, n) }
 }
 
 // Of the wider of two sides, each lane has two places.
@@ -69,25 +63,22 @@ fn odd(halved: bool) -> u64
     ensures { result ≡ mask_of (λ k. eqb (lane_used halved k % 2) 1) 64 }
 {
     if halved {
-        return 0xcccc_cccc_cccc_cccc;
+        0xcccc_cccc_cccc_cccc
+    } else {
+        0xaaaa_aaaa_aaaa_aaaa
     }
-    0xaaaa_aaaa_aaaa_aaaa
 }
 
 // All, odd or even lanes by the value, or what is said for other values.
 fn by_parity(n: u64, other: bool, halved: bool) -> u64
     ensures { result ≡ mask_of (λ k. by_parity n other (lane_used halved k)) 64 }
 {
-    if n == 0 {
-        return ALL;
+    match n {
+        0 => ALL,
+        1 => odd(halved),
+        2 => !odd(halved),
+        _ => all_if(other),
     }
-    if n == 1 {
-        return odd(halved);
-    }
-    if n == 2 {
-        return !odd(halved);
-    }
-    all_if(other)
 }
 
 // ---- mac16 and fms64
@@ -106,16 +97,12 @@ fn only(n: u64) -> u64
 pub fn mac16_mask(lanes: u64, mode: u64, n: u64) -> u64
     ensures { result ≡ mask_of (mac16_enables lanes mode n) 64 }
 {
-    if mode == 0 {
-        return by_parity(n, false, false);
+    match mode {
+        0 => by_parity(n, false, false),
+        1 => only(n),
+        2 => first_or_all(n),
+        _ => last_or_all(lanes, n),
     }
-    if mode == 1 {
-        return only(n);
-    }
-    if mode == 2 {
-        return first_or_all(n);
-    }
-    last_or_all(lanes, n)
 }
 
 // ---- vecint
@@ -124,32 +111,26 @@ pub fn mac16_mask(lanes: u64, mode: u64, n: u64) -> u64
 fn places(n: u8, halved: bool) -> u64
     ensures { result ≡ places_of halved n }
 {
-    if halved { 2 * (n as u64) } else { n as u64 }
+    if halved {
+        2 * u64::from(n)
+    } else {
+        u64::from(n)
+    }
 }
 
 // The lanes that a mode and its value enable, of so many lanes.
 fn vecint_enables(lanes: u8, mode: u64, n: u8, halved: bool) -> u64
     ensures { result ≡ mask_of (λ k. vecint_enables lanes mode n (lane_used halved k)) 64 }
 {
-    if mode == 0 {
-        return by_parity(n as u64, n <= 5, halved);
+    match mode {
+        0 => by_parity(u64::from(n), n <= 5, halved),
+        1 => ALL,
+        2 => first_or_all(places(n, halved)),
+        3 => last_or_all(places(lanes, halved), places(n, halved)),
+        4 => first(places(n, halved)),
+        5 => last(places(lanes, halved), places(n, halved)),
+        _ => 0,
     }
-    if mode == 1 {
-        return ALL;
-    }
-    if mode == 2 {
-        return first_or_all(places(n, halved));
-    }
-    if mode == 3 {
-        return last_or_all(places(lanes, halved), places(n, halved));
-    }
-    if mode == 4 {
-        return first(places(n, halved));
-    }
-    if mode == 5 {
-        return last(places(lanes, halved), places(n, halved));
-    }
-    0
 }
 
 // The mask read at lanes of b bytes.
@@ -179,16 +160,11 @@ fn sides_mask(op: u64) -> u64
 fn enables_all(mode: u64, n: u64) -> bool
     ensures { result ≡ enables_all mode n }
 {
-    if n == 0 {
-        return mode <= 3;
+    match (mode, n) {
+        (_, 0) => mode <= 3,
+        (0, _) => 3 <= n && n <= 5,
+        _ => mode == 1,
     }
-    if mode == 0 {
-        if n < 3 {
-            return false;
-        }
-        return n <= 5;
-    }
-    mode == 1
 }
 
 // The enabled lanes of a vector: all of them where there are several vectors.
@@ -226,21 +202,15 @@ pub fn vecfp_mask(generation: u64, op: u64) -> u64
 
 // ---- what is read of a mask
 
-fn up_to_64(n: usize) -> u64
-    ensures { (result ≡ cond (ltb n 64) n 64) × (result ≤ 64) }
-{
-    if n < 64 { n as u64 } else { 64 }
-}
-
 // How many of the first n lanes are enabled. All lanes need no count.
 pub fn count_first(mask: u64, n: usize) -> u64
     ensures { (result ≡ count (bit mask) (cond (ltb n 64) n 64)) × (result ≤ 64) }
 {
-    let lanes = up_to_64(n);
+    let lanes = n.min(64) as u64;
     if mask == ALL {
         return lanes;
     }
-    u64::count_ones(mask & first(lanes)) as u64
+    u64::from((mask & first(lanes)).count_ones())
 }
 
 // Lane k of 64. Of the forms tried, the compiler does this one in the fewest instructions, 16 lanes at a time.
@@ -253,55 +223,13 @@ fn is_on(mask: u64, k: usize) -> bool
     word | lane == word
 }
 
-// A bool for each lane, as rows take them; no bit is read where all lanes are enabled.
-pub fn lanes64(mask: u64) -> [bool; 64]
-    ensures { result ≡ table (bit mask) 0 64 }
+// A bool for each of the first N lanes, as rows take them; no bit is read where all lanes are enabled.
+pub fn lanes<const N: usize>(mask: u64) -> [bool; N]
+    requires { N ≤ 64 }
+    ensures { result ≡ table (bit mask) 0 N }
 {
     if mask == ALL {
-        return [true; 64];
+        return [true; N];
     }
-    let mut on = [false; 64];
-    for k in 0..64 {
-        on[k] = is_on(mask, k);
-    }
-    on
-}
-
-// The first 32 of them.
-pub fn lanes32(mask: u64) -> [bool; 32]
-    ensures { result ≡ table (bit mask) 0 32 }
-{
-    let all = lanes64(mask);
-    let mut on = [false; 32];
-    for k in 0..32 {
-        on[k] = all[k];
-    }
-    on
-}
-
-// The first 16, for lanes of 4 bytes, and the first 8.
-pub fn lanes16(mask: u64) -> [bool; 16]
-    ensures { result ≡ table (bit mask) 0 16 }
-{
-    if mask == ALL {
-        return [true; 16];
-    }
-    let mut on = [false; 16];
-    for k in 0..16 {
-        on[k] = is_on(mask, k);
-    }
-    on
-}
-
-pub fn lanes8(mask: u64) -> [bool; 8]
-    ensures { result ≡ table (bit mask) 0 8 }
-{
-    if mask == ALL {
-        return [true; 8];
-    }
-    let mut on = [false; 8];
-    for k in 0..8 {
-        on[k] = is_on(mask, k);
-    }
-    on
+    std::array::from_fn(|k| is_on(mask, k))
 }

@@ -1,21 +1,11 @@
 // A thin reader over the decoder of records: it holds the bytes of the steps and the cursor.
 #![tactic(auto)]
 
-ghost use Rattle.std.specs.Prelude.{◌≡◌};
+ghost use Rattle.std.specs.Prelude.{◌≡◌, ◌-◌};
+ghost use Rattle.std.specs.Iterator.{at_most};
 ghost use Rattle.reader.specs.Reading.{found_as, reader_at, moved};
 
-#[derive(Clone, Copy)]
-pub enum Step {
-    Record(file::Record),
-    End,
-}
-
-// The step that a cursor is at, and the cursor behind it.
-#[derive(Clone, Copy)]
-pub struct Found {
-    pub step: Step,
-    pub cursor: file::Cursor,
-}
+use isa::Call;
 
 #[derive(Clone, Copy)]
 pub struct Reader<'a> {
@@ -23,19 +13,14 @@ pub struct Reader<'a> {
     pub cursor: file::Cursor,
 }
 
-pub fn found_at(steps: &[u8], cursor: file::Cursor) -> Found
+// The step that a cursor is at, and the cursor behind it; or none, and the same cursor.
+#[tactic(auto, unfolding(crate::specs::Reading::found_as))]
+pub fn found_at(steps: &[u8], cursor: file::Cursor) -> (Option<Call>, file::Cursor)
     ensures { result ≡ found_as steps.now cursor }
 {
-    let read = file::read_record(steps, cursor);
-    match read {
-        file::Read::Record(record, next) => Found {
-            step: Step::Record(record),
-            cursor: next,
-        },
-        file::Read::End => Found {
-            step: Step::End,
-            cursor,
-        },
+    match file::read_record(steps, cursor) {
+        Some((record, behind)) => (Some(record), behind),
+        None => (None, cursor),
     }
 }
 
@@ -45,14 +30,20 @@ impl<'a> Reader<'a> {
     {
         Reader { steps, cursor }
     }
+}
+
+impl<'a> Iterator for Reader<'a> {
+    type Item = Call;
 
     // The step that the reader is at; the reader moves on behind it.
-    pub fn next(&mut self) -> Step
-        ensures { (result ≡ (found_as self.old.steps.now self.old.cursor).step)
-            × (self.new ≡ moved self.old) }
-    {
-        let found = found_at(self.steps, self.cursor);
-        self.cursor = found.cursor;
-        found.step
+    ghost next_gives = { λ r step s. (step ≡ (found_as r.steps.now r.cursor).0) × (s ≡ moved r) };
+
+    ghost remaining = { λ r. at_most (r.cursor.end - r.cursor.next) };
+
+    #[tactic(auto, unfolding(crate::specs::Reading::found_as))]
+    fn next(&mut self) -> Option<Call> {
+        let (step, cursor) = found_at(self.steps, self.cursor);
+        self.cursor = cursor;
+        step
     }
 }

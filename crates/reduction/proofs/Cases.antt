@@ -5,9 +5,13 @@ use mathlib.Core.Bool.{Bool, true, false, cond, ◌&&◌}
 use mathlib.Core.List.{List}
 use mathlib.Core.Logic.{⊎_elim}
 use Prim.Native.Nat.{ℕ, zero, suc, ◌+◌, ◌-◌, ◌*◌, ◌/◌, ◌%◌, ◌^◌, ◌≤◌, ◌<◌}
-use native.Mathlib.Nat.{mod-lt, mod-eq_of_lt, zero-lt-suc, zero-mod}
+use Rattle.isa.proofs.Place.{factor_pos}
+use Rattle.std.proofs.Common.{mul-le-mul}
+use Rattle.std.proofs.Math.Nat.{le-mul_of_pos_right, le_refl}
+use native.Mathlib.Nat.{suc-mul, mod-lt, mod-eq_of_lt, zero-lt-suc, zero-mod}
 use native.Mathlib.Omega.{arith}
 use borrow.Author.Tests.{ne_eqb, lt-ltb, le-ltb}
+use Rattle.std.specs.Prelude.{Option, Some, None}
 use lib.Dec.{eqb}
 use lib.IntN.{ℤ, pos, negsuc, ◌+ℤ◌}
 use lib.ListN.{set, get_or}
@@ -24,19 +28,9 @@ use Rattle.number.proofs.Range.{mag-add}
 use Rattle.number.proofs.Tests.{pick_true, pick_false, lt_or_le}
 use Rattle.isa.specs.Effect.{applied}
 use Rattle.state.proofs.RunLoop.{run-outside}
+use Rattle.reduction.specs.declared.Range.{Range}
 use Rattle.reduction.specs.declared.Reduce.{Reduce}
-use Rattle.reduction.specs.Reduction.{width_in, value_of, reduce_to, added_to, shifted_by, low_end, high_end, lane_stored, row_reduced}
-
--- ---- widths
-
-pub width-1 : (b : ℕ) → b ≡ 1 → width_in b ≡ 1
-width-1 b e = ap width_in e
-
-pub width-2 : (b : ℕ) → b ≡ 2 → width_in b ≡ 2
-width-2 b e = ap width_in e
-
-pub width-4 : (b : ℕ) → (b ≡ 1 → ⊥) → (b ≡ 2 → ⊥) → width_in b ≡ 4
-width-4 b f g = pick_false _ _ (ne_eqb b 1 f) ∙ pick_false _ _ (ne_eqb b 2 g)
+use Rattle.reduction.specs.Reduction.{width_in, clamp_by, value_of, new_of, reduce_to, added_to, shifted_by, low_end, high_end, lane_stored, row_reduced}
 
 -- ---- the sum that is shifted
 
@@ -77,19 +71,8 @@ module _ (z : ℤ) (f : SFits w32 z) where
   pub cast_is : to_z w32 (of_z w32 (to_z w64 (of_z w64 z))) ≡ z
   cast_is = ap (λ (x : ℤ). to_z w32 (of_z w32 x)) same ∙ to_z-of_z f
 
--- ---- the ends of the range
+-- ---- the ends of the range, in an i32
 
-module _ (below : Bool) (b : ℕ) where
-  pub low_unsigned : below ≡ false → pos 0 ≡ low_end below b
-  low_unsigned t = sym (pick_false _ _ t)
-
-  pub low_signed : (w : ℕ) → below ≡ true → width_in b ≡ w → negsuc (span w / 2 - 1) ≡ low_end below b
-  low_signed w t e = sym (pick_true _ _ t ∙ ap (λ (x : ℕ). negsuc (span x / 2 - 1)) e)
-
-pub high_at : (below : Bool) (b w : ℕ) → width_in b ≡ w → pos (cond below (span w / 2) (span w) - 1) ≡ high_end below b
-high_at below b w e = ap (λ (x : ℕ). pos (cond below (span x / 2) (span x) - 1)) (sym e)
-
--- in an i32
 pub low_fits : (below : Bool) (b : ℕ) → SFits w32 (low_end below b)
 low_fits below b = go below (eqb b 1) (eqb b 2)
   where
@@ -123,41 +106,47 @@ clamp-same low n v h =
 -- ---- the value
 
 module _ (how : Reduce) (old v : ℤ) (ev : v ≡ shifted_by how old) where
-  pub value-clamped : how.clamps ≡ true → clamp (low_end how.below how.width) (high_end how.below how.width) v ≡ value_of how old
+  pub value-clamped : (to : Range) → how.clamp ≡ Some to → clamp (low_end to.below to.width) (high_end to.below to.width) v ≡ value_of how old
   unfolding value_of
-  value-clamped t = by how.below ∙ sym (pick_true _ _ t)
+  value-clamped to e =
+      by to.below
+      ∙ ap (clamp_by (Some to)) ev
+      ∙ ap (λ (c : Option Range). clamp_by c (shifted_by how old)) (sym e)
     where
-      by : (s : Bool) → clamp (low_end s how.width) (high_end s how.width) v ≡ cond s
-          (clamp (low_end true how.width) (high_end true how.width) (shifted_by how old))
-          (clamp (low_end false how.width) (high_end false how.width) (shifted_by how old))
-      by true = ap (clamp (low_end true how.width) (high_end true how.width)) ev
-      by false = ap (clamp (low_end false how.width) (high_end false how.width)) ev
+      by : (s : Bool) → clamp (low_end s to.width) (high_end s to.width) v ≡ cond s
+          (clamp (low_end true to.width) (high_end true to.width) v)
+          (clamp (low_end false to.width) (high_end false to.width) v)
+      by true = refl
+      by false = refl
 
-  pub value-left : how.clamps ≡ false → v ≡ value_of how old
+  pub value-left : how.clamp ≡ None → v ≡ value_of how old
   unfolding value_of
-  value-left t = ev ∙ sym (pick_false _ _ t)
+  value-left e = ev ∙ ap (λ (c : Option Range). clamp_by c (shifted_by how old)) (sym e)
 
 -- ---- a lane
 
-pub cleared-is : (how : Reduce) (b z : ℕ) → how.clears ≡ true → 0 ≡ reduce_to b how z
+pub cleared-is : (how : Reduce) (b : ℕ) (old : ℤ) → how.clears ≡ true → wrap (span b) (pos 0) ≡ new_of b how old
+cleared-is how b old e = ap (wrap (span b)) (sym (pick_true _ _ e))
+
+pub reduced-is : (how : Reduce) (b : ℕ) (old v : ℤ) → how.clears ≡ false → v ≡ value_of how old → wrap (span b) v ≡ new_of b how old
+reduced-is how b old v e ev = ap (wrap (span b)) (ev ∙ sym (pick_false _ _ e))
+
+pub reduce-is : (how : Reduce) (b z : ℕ) (old : ℤ) → old ≡ read how.sign b z → new_of b how old ≡ reduce_to b how z
 unfolding reduce_to
-cleared-is how b z e = sym (ap (wrap (span b)) (pick_true _ _ e) ∙ zero-mod (span b))
+reduce-is how b z old e = ap (new_of b how) e
 
-pub reduced-is : (how : Reduce) (b z : ℕ) (old v : ℤ) → how.clears ≡ false → old ≡ read how.sign b z → v ≡ value_of how old → wrap (span b) v ≡
-    reduce_to b how z
-unfolding reduce_to
-reduced-is how b z old v e eo ev = ap (wrap (span b)) (ev ∙ ap (value_of how) eo ∙ sym (pick_false _ _ e))
+-- the lane as the code stores it, where z is what it reads and n what it makes of it
+pub stored_is : {A : Type 0} (number_of : A → ℕ) (b : ℕ) (how : Reduce) (s : List ℕ) (at : ℕ) (on : Bool) (z n r : A)
+    → number_of z ≡ number b (byte_at s) at → number_of n ≡ reduce_to b how (number_of z) → r ≡ cond on n z
+    → sets s at (bytes_of b (number_of r)) ≡ lane_stored b how s at on
+stored_is number_of b how s at on z n r ez en er = ap (λ (x : ℕ). sets s at (bytes_of b x)) (ap number_of er ∙ by on)
+  where
+    old : ℕ
+    old = number b (byte_at s) at
 
--- one byte, as it is stored
-pub stores_1 : (s : List ℕ) (p n : ℕ) → n < 256 → set s p n ≡ sets s p (bytes_of 1 n)
-unfolding table
-stores_1 s p n h = ap (set s p) (sym (byte_of_zero n ∙ mod-eq_of_lt h))
-
--- the lane as the code stores it, where z is the number that it reads and n the one that it makes of it
-pub stored_is : (b : ℕ) (how : Reduce) (s : List ℕ) (at : ℕ) (on : Bool) (z n r : ℕ) → z ≡ number b (byte_at s) at → n ≡ reduce_to b how z → r ≡ cond on n z
-    → sets s at (bytes_of b r) ≡ lane_stored b how s at on
-stored_is b how s at on z n r ez en er =
-    ap (λ (x : ℕ). sets s at (bytes_of b x)) (er ∙ ap (λ (x : ℕ). cond on x z) en ∙ ap (λ (x : ℕ). cond on (reduce_to b how x) x) ez)
+    by : (o : Bool) → number_of (cond o n z) ≡ cond o (reduce_to b how old) old
+    by true = en ∙ ap (reduce_to b how) ez
+    by false = ez
 
 -- ---- a row
 
@@ -172,3 +161,16 @@ pub row-outside : (b row : ℕ) (on : List Bool) (how : Reduce) (s : List ℕ) �
 row-outside b row on how s h =
     let m : (m : ℕ) × (m * width_in b ≡ 64) = lanes-in (eqb b 1) (eqb b 2) in
     run-outside (row_reduced (width_in b) row on how) m.0 m.1 row 1 s (λ r l f. ap (λ (t : Bool). t && get_or on l false) f) h
+
+-- a lane lies in its row
+pub lane-in : (l n b : ℕ) → l < n → n * b ≡ 64 → l * b + b ≤ 64
+lane-in l n b h e =
+    let more : suc l * b ≤ n * b = mul-le-mul h (le_refl b) in
+    omega (arith, suc-mul l b, more, e)
+
+-- and a row in the registers
+pub lane-inside : (l n b c row : ℕ) → l < n → n * b ≡ 64 → c ≡ b → row < 64 → 1024 + (row * 64 + l * c) + b ≤ 5120
+lane-inside l n b c row h e f hr = let inside : l * c + b ≤ 64 = subst (λ (x : ℕ). l * x + b ≤ 64) (sym f) (lane-in l n b h e) in omega arith
+
+pub lanes-few : (n b : ℕ) → n * b ≡ 64 → n ≤ 64
+lanes-few n b e = omega (arith, le-mul_of_pos_right n (factor_pos b n 63 e), e)

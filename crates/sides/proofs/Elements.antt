@@ -6,6 +6,7 @@ use mathlib.Core.List.{List}
 use Prim.Native.Nat.{ℕ, ◌<◌}
 use native.Mathlib.Nat.{zero-add}
 use lib.Dec.{ltb}
+use Rattle.std.specs.Prelude.{Option}
 use lib.IntN.{ℤ, pos}
 use lib.ListN.{get_or}
 use borrow.Author.Tests.{lt-ltb}
@@ -14,11 +15,11 @@ use Rattle.number.proofs.Bytes.{get_d-table}
 use Rattle.number.proofs.Tests.{pick_true}
 use Rattle.sides.specs.Sides.{lane_of, lane_bytes, index_of, side_of, term_of, kept_terms}
 
-pub side-at : (wide sign : Bool) (bytes : List ℕ) (fixed : Bool) (lane : ℕ) (halved : Bool) (k : ℕ) → k < 64
-    → get_or (side_of wide sign bytes fixed lane halved) k (pos 0) ≡ lane_of sign (lane_bytes wide) bytes (index_of wide fixed lane halved k)
+pub side-at : (wide sign : Bool) (bytes : List ℕ) (fixed : Option ℕ) (halved : Bool) (k : ℕ) → k < 64
+    → get_or (side_of wide sign bytes fixed halved) k (pos 0) ≡ lane_of sign (lane_bytes wide) bytes (index_of wide fixed halved k)
 unfolding side_of
-side-at wide sign bytes fixed lane halved k h =
-    let f : ℕ → ℤ = λ i. lane_of sign (lane_bytes wide) bytes (index_of wide fixed lane halved i) in
+side-at wide sign bytes fixed halved k h =
+    let f : ℕ → ℤ = λ i. lane_of sign (lane_bytes wide) bytes (index_of wide fixed halved i) in
     get_d-table f (pos 0) 0 64 k h ∙ ap f (zero-add k)
 
 pub kept_at : (n : ℕ) (plus rounds : Bool) (s : ℕ) (xs ys : List ℤ) (k : ℕ) → k < n → k < 64

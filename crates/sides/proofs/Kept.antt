@@ -17,17 +17,13 @@ use mir.Facts.{to_z-of_z}
 use borrow.Author.Tests.{lt-ltb, le-ltb}
 use Rattle.number.specs.Integers.{signed, read, kept, ◌≫◌}
 use Rattle.number.proofs.Bytes.{get_d-table, table_same}
-use Rattle.number.proofs.Range.{kept_same, mag-add, mag-read}
+use Rattle.number.proofs.Range.{kept_same, mag-add}
 use Rattle.number.proofs.Tests.{lt_or_le, pick_true, pick_false}
-use Rattle.sides.specs.Sides.{side_by, term_of, kept_terms, values_of, signed_by, HoldsLanes}
+use Rattle.sides.specs.Sides.{side_by, term_of, kept_terms, values_of, signed_by, HoldsLanes, HoldsEach}
 use Rattle.sides.specs.declared.SideForm.{SideForm}
-use Rattle.sides.proofs.FirstLanes.{within, beyond}
+use Rattle.number.proofs.Fill.{fill-all}
 
 -- ---- bounds
-
--- a 16-bit number, signed or not
-pub read_held : (sign : Bool) (n : ℕ) (z : ℤ) → n < 65536 → z ≡ read sign 2 n → (z ≡ read sign 2 n) × (mag z < 65536)
-read_held sign n z h e = (e, subst (λ (v : ℤ). mag v < 65536) (sym e) (mag-read sign 2 n h))
 
 mag-negative : (n : ℕ) → mag (neg_ℤ (pos n)) ≤ n
 mag-negative zero = omega arith
@@ -90,7 +86,7 @@ kept-unsigned false s x y v q r h ev eq er =
 
 -- ---- the first n of 64
 
-abbrev pub kept_at : ℕ → Bool → Bool → ℕ → List ℤ → List ℤ → ℕ → ℤ
+abbrev kept_at : ℕ → Bool → Bool → ℕ → List ℤ → List ℤ → ℕ → ℤ
 kept_at n plus rounds s xs ys k = cond (ltb k n) (kept 4 (term_of plus rounds s (get_or xs k (pos 0)) (get_or ys k (pos 0)))) (pos 0)
 
 values_at : (sign : Bool) (bits : List ℕ) (k : ℕ) → k < 64 → get_or (values_of sign bits) k (pos 0) ≡ read sign 2 (get_or bits k 0)
@@ -99,18 +95,23 @@ values_at sign bits k h =
     let f : ℕ → ℤ = λ i. read sign 2 (get_or bits i 0) in
     get_d-table f (pos 0) 0 64 k h ∙ ap f (zero-add k)
 
--- as many as the loop makes
-module _ (n m : ℕ) (many : m ≡ cond (ltb n 64) n 64) (plus rounds : Bool) (s : ℕ) where
-  pub kept_in : (xsigned ysigned : Bool) (xs ys : List ℕ) (k : ℕ) (v : ℤ) → k < m → k < 64
-      → v ≡ kept 4 (term_of plus rounds s (read xsigned 2 (get_or xs k 0)) (read ysigned 2 (get_or ys k 0)))
-      → v ≡ kept_at n plus rounds s (values_of xsigned xs) (values_of ysigned ys) k
-  kept_in xsigned ysigned xs ys k v h l e =
-      e
-      ∙ (λ t. kept 4 (term_of plus rounds s (sym (values_at xsigned xs k l) t) (sym (values_at ysigned ys k l) t)))
-      ∙ sym (pick_true _ _ (lt-ltb k n (within n m many k h)))
-
-  pub kept_out : (xs ys : List ℤ) (k : ℕ) → m ≤ k → k < 64 → kept_at n plus rounds s xs ys k ≡ pos 0
-  kept_out xs ys k h l = pick_false _ _ (le-ltb k n (beyond n m many k h l))
+-- terms made of the first n of 64 numbers
+pub kept-each : (n : ℕ) (plus rounds : Bool) (s : ℕ) (xsigned ysigned : Bool) (xs ys : List ℕ) (out : List ℤ) {R : ℕ → ℕ → ℤ → Type 0} → HoldsEach n R xs ys out
+    → ((x y : ℕ) (r : ℤ) → R x y r → r ≡ kept 4 (term_of plus rounds s (read xsigned 2 x) (read ysigned 2 y)))
+    → out ≡ kept_terms n plus rounds s (values_of xsigned xs) (values_of ysigned ys)
+unfolding kept_terms HoldsEach
+kept-each n plus rounds s xsigned ysigned xs ys out {R} each gives =
+    fill-all (pos 0) (kept_at n plus rounds s (values_of xsigned xs) (values_of ysigned ys)) 64 64 out each.0 (omega arith) at
+  where
+    at : (k : ℕ) → k < 64 → get_or out k (pos 0) ≡ kept_at n plus rounds s (values_of xsigned xs) (values_of ysigned ys) k
+    at k l =
+        ⊎_elim
+        (λ less.
+        gives _ _ _ (each.1 k less l)
+        ∙ (λ t. kept 4 (term_of plus rounds s (sym (values_at xsigned xs k l) t) (sym (values_at ysigned ys k l) t)))
+        ∙ sym (pick_true _ _ (lt-ltb k n less)))
+        (λ more. each.2 k more ∙ sym (pick_false _ _ (le-ltb k n more)))
+        (lt_or_le k n)
 
 -- products of two sides, in either order
 pub kept-swap : (n : ℕ) (rounds : Bool) (s : ℕ) (xs ys : List ℤ) → kept_terms n false rounds s ys xs ≡ kept_terms n false rounds s xs ys

@@ -1,7 +1,8 @@
 -- A row of Z as the list of its lanes' numbers: read, stored, and made anew from what was read. m lanes of b bytes fill it.
 -- Assumes nothing.
-use Rattle.std.proofs.Common.{◌≡◌, ℕ, ◌+◌, ◌*◌, ◌%◌, ◌<◌, ◌≤◌, Bool, false, cond, ◌&&◌, eqb, List, length, get_or, sym, ap, ◌∙◌, mod-eq_of_lt}
+use Rattle.std.proofs.Common.{◌≡◌, ℕ, ◌+◌, ◌-◌, ◌*◌, ◌%◌, ◌<◌, ◌≤◌, Bool, true, false, cond, map, ◌&&◌, eqb, List, length, get_or, sym, ap, ◌∙◌, mod-eq_of_lt}
 use Rattle.std.proofs.Common.{mul_comm, zero-add, arith, eq-eqb}
+use Rattle.std.proofs.lemmas.List.{get_or-map}
 use lib.Arith.{digits_lt}
 use lib.Seq.{sets}
 use Rattle.number.specs.Bytes.{span, byte_at, number, bytes_of, table}
@@ -9,6 +10,7 @@ use Rattle.number.proofs.Bytes.{get_d-table, table_same, number_same, number-mov
 use Rattle.number.proofs.Tests.{two, pick_true, pick_false}
 use Rattle.isa.specs.State.{z_base, start}
 use Rattle.isa.specs.Effect.{new_lane, applied}
+use Rattle.isa.proofs.Place.{factor_pos}
 use Rattle.state.specs.Rows.{among, one_row}
 use Rattle.state.proofs.Holds.{Bytes, lane_after}
 use Rattle.state.proofs.RunLoop.{among_one, run-outside}
@@ -18,7 +20,20 @@ use Rattle.state.proofs.Dealing.{in_row, Lanes, lanes-none, lanes-still, lanes-m
 at : {A : Type 0} (d : A) (f : ℕ → A) (n k : ℕ) → k < n → get_or (table f 0 n) k d ≡ f k
 at d f n k h = get_d-table f d 0 n k h ∙ ap f (zero-add k)
 
+-- a value chosen of two arrays, by its number
+pub number-chosen : {A : Type 0} (p : A → ℕ) (o : Bool) (vs zs : List A) (l : ℕ) (v d e : A) → l < length vs → l < length zs
+    → v ≡ cond o (get_or vs l d) (get_or zs l e) → p v ≡ cond o (get_or (map p vs) l 0) (get_or (map p zs) l 0)
+number-chosen p true vs zs l v d e hv hz ev = ap p ev ∙ sym (get_or-map p vs l d 0 hv)
+number-chosen p false vs zs l v d e hv hz ev = ap p ev ∙ sym (get_or-map p zs l e 0 hz)
+
 module _ (b m : ℕ) (fit : m * b ≡ 64) where
+  -- a lane lies in its row
+  pub lane_fits : (l : ℕ) → l < m → l * b + b ≤ 64
+  lane_fits l h =
+      let positive : 0 < b = factor_pos b m 63 fit in
+      let last : b - 1 < b = omega arith in
+      omega (arith, fit, digits_lt h last)
+
   -- the numbers of 64 bytes, by what gives the bytes
   pub words_of : (f : ℕ → ℕ) (bytes r : List ℕ) → bytes ≡ table f 0 64
       → r ≡ table (λ l. number b (byte_at bytes) (b * l)) 0 m → r ≡ table (λ l. number b f (b * l)) 0 m

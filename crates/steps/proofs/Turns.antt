@@ -11,11 +11,11 @@ use Rattle.isa.specs.Call.{Call}
 use Rattle.isa.specs.State.{count_of}
 use Rattle.isa.specs.Step.{step_due, run}
 use Rattle.isa.proofs.Step.{stepped-length}
-use Rattle.file.specs.File.{call_at, calls, cursor, record_of}
+use Rattle.file.specs.File.{call_at, calls, cursor}
 use Rattle.text.proofs.Pieces.{Stored, stored_append}
-use Rattle.reader.specs.declared.Step.{Step}
-use Rattle.reader.specs.declared.Step.TheVariants as step
-use Rattle.reader.specs.declared.Found.{Found}
+use Rattle.std.specs.Prelude.{Option, Some}
+use Rattle.file.specs.declared.Cursor.{Cursor}
+use Rattle.reader.specs.declared.Reader.{Reader}
 use Rattle.reader.specs.Reading.{found_as}
 use Rattle.reader.proofs.Records.{found_record}
 use Rattle.steps.specs.Steps.{step_lines, state_by, line_by}
@@ -25,6 +25,12 @@ use Rattle.steps.proofs.Branches.{RanOne}
 pub length_run : (cs : List Call) (s : List ℕ) → length (run cs s) ≡ length s
 length_run [] s = refl
 length_run (c ∷ cs) s = length_run cs (step_due c s) ∙ stepped-length c (count_of s) s
+
+-- a reader of these bytes that stands at record i of n finds it
+pub found-there : (steps : List ℕ) (i n : ℕ) (r : Reader) → r.steps.now ≡ steps → r.cursor ≡ cursor i n → i < n → i < 2048
+    → (found_as r.steps.now r.cursor).0 ≡ Some (call_at steps i)
+found-there steps i n r bytes place h most =
+    (λ t. (found_as (bytes t) (place t)).0) ∙ ap (λ (f : Option Call × Cursor). f.0) (found_record steps i n h most)
 
 module _ (steps s₀ o₀ : List ℕ) (first : ℕ) where
   abbrev lines : ℕ → List ℕ
@@ -43,16 +49,15 @@ module _ (steps s₀ o₀ : List ℕ) (first : ℕ) where
   ran-none = (refl, (refl, refl), omega arith)
 
   module _ {s o : List ℕ} {at : ℕ} where
-    -- one more: a reader at record i of n found one, and it was run
-    pub ran-more : (i n : ℕ) → i < n → n ≤ 2048 → Ran i s o at → (found : Step) → found ≡ (found_as steps (cursor i n)).step
-        → {s' o' : List ℕ} {at' : ℕ} → RanOne s o at (first + i) found s' o' at' → at' ≤ at + 55 → Ran (i + 1) s' o' at'
-    ran-more i n h most ran found e {s'} {o'} {at'} one short =
-        let there : found ≡ step.Record (record_of (call_at steps i)) = e ∙ ap (λ (f : Found). f.step) (found_record steps i n h (omega arith)) in
+    -- one more: record i was found and run
+    pub ran-more : (i : ℕ) → Ran i s o at → (r : Call) → Some r ≡ Some (call_at steps i)
+        → {s' o' : List ℕ} {at' : ℕ} → RanOne s o at (first + i) r s' o' at' → at' ≤ at + 55 → Ran (i + 1) s' o' at'
+    ran-more i ran r there {s'} {o'} {at'} one short =
         let was : (s ≡ run (calls steps i) s₀) = ran.0 in (
           one.0 ∙ (λ t. state_by (was t) (there t)) ∙ sym (run_more steps i s₀),
           subst (λ (xs : List ℕ). Stored o₀ 0 xs o' at')
               (ap (λ (xs : List ℕ). lines i ++ xs) (λ t. line_by (first + i) (was t) (there t)) ∙ sym (lines_more steps i first s₀))
-              (stored_append o₀ o o' 0 at at' (lines i) (line_by (first + i) s found) ran.1 (one.1, one.2)),
+              (stored_append o₀ o o' 0 at at' (lines i) (line_by (first + i) s (Some r)) ran.1 (one.1, one.2)),
           omega (arith, short, ran.2),
         )
 

@@ -1,12 +1,9 @@
 -- Calls run one after another on a state, and the lines that are printed of them.
 -- Assumes nothing.
-use Rattle.std.specs.Prelude.{◌≡◌, List, [], ◌∷◌, ◌++◌, ℕ, suc, ◌+◌, length}
-use Rattle.isa.specs.Call.{Call, call}
+use Rattle.std.specs.Prelude.{◌≡◌, List, [], ◌∷◌, ◌++◌, ℕ, suc, ◌+◌, Option, Some, None, length}
+use Rattle.isa.specs.Call.{Call}
 use Rattle.isa.specs.Step.{answer_due, step_due, run, answers}
-use Rattle.file.specs.declared.Record.{Record}
 use Rattle.text.specs.Lines.{step_line}
-use Rattle.reader.specs.declared.Step.{Step}
-use Rattle.reader.specs.declared.Step.TheVariants as step
 
 -- ---- lines
 
@@ -24,16 +21,13 @@ Joined =
     × (step_lines (cs ++ ds) i s ≡ step_lines cs i s ++ step_lines ds (i + length cs) (run cs s))
     × (answers (cs ++ ds) s ≡ answers cs s ++ answers ds (run cs s))
 
--- ---- one record, as it was found
-
-abbrev pub call_of : Record → Call
-call_of r = call r.instruction r.generation r.operand
+-- ---- one record, where one was found
 
 -- the state that it leaves, and the line that it has at a place: "driver takes the serial from the count"
-abbrev pub state_by : List ℕ → Step → List ℕ
-state_by s (step.Record r) = step_due (call_of r) s
-state_by s step.End = s
+abbrev pub state_by : List ℕ → Option Call → List ℕ
+state_by s (Some c) = step_due c s
+state_by s None = s
 
-abbrev pub line_by : ℕ → List ℕ → Step → List ℕ
-line_by place s (step.Record r) = step_line place (answer_due s (call_of r))
-line_by place s step.End = []
+abbrev pub line_by : ℕ → List ℕ → Option Call → List ℕ
+line_by place s (Some c) = step_line place (answer_due s c)
+line_by place s None = []

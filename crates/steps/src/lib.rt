@@ -2,35 +2,36 @@
 // that a longer run is such runs joined up.
 #![tactic(auto)]
 
-ghost use Rattle.std.specs.Prelude.{◌≡◌, ◌+◌, ◌*◌, ◌≤◌, ◌<◌, length};
+ghost use Rattle.std.specs.Prelude.{◌≡◌, ◌+◌, ◌*◌, ◌≤◌, ◌<◌, Some, length};
 ghost use Rattle.std.proofs.lemmas.List.Edits.{sets};
 ghost use Rattle.isa.specs.Step as Step;
 ghost use Rattle.file.specs.File.{calls, records_in};
 ghost use Rattle.steps.specs.Steps.{state_by, line_by, step_lines};
 
-// What was found run with the serial due, and its line; nothing where that is no record.
+// A step run with the serial due, and its line.
 fn run_step(
     state: &mut [u8],
     out: &mut [u8],
     at: usize,
     first: u32,
     i: usize,
-    step: reader::Step,
+    step: isa::Call,
 ) -> usize
     requires { (i < 2048) × (at ≤ 55 * i) }
-    ensures state_after { (state.new ≡ state_by state.old step)
-        × (out.new ≡ sets out.old at (line_by (first + i) state.old step))
-        × (result ≡ at + length (line_by (first + i) state.old step)) }
+    ensures state_after { (state.new ≡ state_by state.old (Some step))
+        × (out.new ≡ sets out.old at (line_by (first + i) state.old (Some step)))
+        × (result ≡ at + length (line_by (first + i) state.old (Some step))) }
     ensures short { result ≤ at + 55 }
 {
-    match step {
-        reader::Step::Record(r) => {
-            let serial = amx::due(state);
-            let answer = amx::step(state, r.instruction, r.generation, r.operand, serial);
-            text::step_line(out, at as u32, first as u64 + i as u64, answer)
-        }
-        reader::Step::End => at,
-    }
+    let serial = amx::due(state);
+    let answer = amx::step(
+        state,
+        step.instruction,
+        step.generation,
+        step.operand,
+        serial,
+    );
+    text::step_line(out, at as u32, first as u64 + i as u64, answer)
 }
 
 // n records through one reader.
@@ -43,11 +44,11 @@ fn run_records(steps: &[u8], state: &mut [u8], out: &mut [u8], first: u32, n: us
 {
     let mut reader = reader::Reader::new(steps, file::Cursor { next: 0, end: n });
     let mut at = 0;
-    let mut i = 0;
-    while i < n {
-        let step = reader.next();
+    for i in 0..n {
+        let Some(step) = reader.next() else {
+            return at;
+        };
         at = run_step(state, out, at, first, i, step);
-        i = i + 1;
     }
     at
 }

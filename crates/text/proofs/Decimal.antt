@@ -5,12 +5,12 @@ use mathlib.Core.Bool.{true, false, cond}
 use mathlib.Core.List.{List, [], ◌∷◌, ◌++◌, append_assoc}
 use Prim.Native.Nat.{ℕ, zero, suc, ◌+◌, ◌*◌, ◌/◌, ◌%◌, ◌^◌, ◌≤◌, ◌<◌}
 use native.Mathlib.Nat.{not-suc-le-zero}
-use native.Mathlib.Numerals.{add-one}
 use native.Mathlib.Omega.{arith}
 use borrow.Author.Tests.{lt-ltb, le-ltb, ltb-true, ltb-false}
 use lib.Dec.{ltb}
-use lib.ListN.{length, set, length-append}
-use lib.Seq.{sets}
+use lib.ListN.{length, length-append}
+use Rattle.number.specs.Bytes.{byte_of, table, bytes_of}
+use Rattle.number.proofs.Bytes.{byte_of_zero, byte_of_suc}
 use Rattle.text.specs.Lines.{last_digits, digits}
 use Rattle.number.proofs.Tests.{two}
 use Rattle.text.proofs.Pieces.{Stored, stored_append}
@@ -103,11 +103,12 @@ stored_many s t u at a n r h fits front back =
 abbrev both : ℕ → ℕ
 both n = n / 10 + 256 * (n % 10) + 12336
 
-pub pair-bytes : (s : List ℕ) (at n : ℕ) → n < 100 → set (set s at (both n % 256)) (at + 1) (both n / 256) ≡ sets s at (pair n)
-pair-bytes s at n fits =
-    let low : both n % 256 ≡ 48 + n / 10 = omega arith in
-    let high : both n / 256 ≡ 48 + n % 10 = omega arith in
-    λ i. set (set s at (low i)) (add-one at i) (high i)
+pub pair-bytes : (n : ℕ) → n < 100 → bytes_of 2 (both n) ≡ pair n
+unfolding table
+pair-bytes n fits =
+    let low : byte_of (both n) 0 ≡ 48 + n / 10 = byte_of_zero (both n) ∙ omega arith in
+    let high : byte_of (both n) 1 ≡ 48 + n % 10 = byte_of_suc (both n) 0 ∙ byte_of_zero (both n / 256) ∙ omega arith in
+    λ i. low i ∷ high i ∷ []
 
 pub stored_pair : (s t : List ℕ) (at n r : ℕ) → 10 ≤ n → n < 100 → Stored s at (pair n) t r → Stored s at (digits n) t r
 stored_pair s t at n r h fits = subst (λ (xs : List ℕ). Stored s at xs t r) (sym (digits-pair n h fits))

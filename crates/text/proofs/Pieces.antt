@@ -3,13 +3,20 @@
 use mathlib.Core.Path.{◌≡◌, refl, sym, ap, ◌∙◌}
 use mathlib.Core.List.{List, [], ◌∷◌, ◌++◌}
 use Prim.Native.Nat.{ℕ, suc, ◌+◌, ◌*◌, ◌/◌, ◌%◌, ◌≤◌, ◌<◌}
-use native.Mathlib.Nat.{le_of_lt}
+use native.Mathlib.Nat.{le_of_lt, mod-eq_of_lt}
 use native.Mathlib.Numerals.{add-one}
 use native.Mathlib.Omega.{arith}
 use lib.ListN.{length, get_or, set, take, length-append}
 use lib.Seq.{sets, take-suc, take_all, length-take-le}
+use Rattle.number.specs.Bytes.{table, bytes_of}
+use Rattle.number.proofs.Bytes.{byte_of_zero}
 use Rattle.number.proofs.Slice.{sets-joined}
 use Rattle.text.specs.Lines.{hex_digit, hex}
+
+-- a byte, as number stores it
+pub byte_stored : (s t : List ℕ) (at b : ℕ) → b < 256 → t ≡ sets s at (bytes_of 1 b) → t ≡ set s at b
+unfolding table
+byte_stored s t at b h e = e ∙ ap (set s at) (byte_of_zero b ∙ mod-eq_of_lt h)
 
 -- t is s with xs stored from `at` on, and r is the position after them
 abbrev pub Stored : List ℕ → ℕ → List ℕ → List ℕ → ℕ → Type 0

@@ -11,7 +11,7 @@ use Rattle.number.specs.Bytes.{byte_at, number}
 use Rattle.number.proofs.Tests.{two, pick_false}
 use Rattle.number.proofs.Bytes.{number_same, table_same}
 use Rattle.isa.specs.State.{register_bytes}
-use Rattle.file.specs.declared.Opened.TheVariants.{Steps}
+use Rattle.std.specs.Prelude.{Ok}
 use Rattle.file.specs.File.{bytes_from, section_count, has_checkpoint, checkpoint_length, contents_length, steps_base, step_bytes, most_steps}
 use Rattle.file.specs.File.{step_count, steps_end}
 use Rattle.file.specs.File.{registers_in, entry_is, sections_right, table_right, head_as}
@@ -88,7 +88,7 @@ module _ (s t : List ℕ) (n : ℕ) (same : (p : ℕ) → p < n → byte_at s p 
 
 -- ---- a head, and more behind it
 
-module _ (head rest : List ℕ) (n : ℕ) (opened : head_as head ≡ Steps n) where
+module _ (head rest : List ℕ) (n : ℕ) (opened : head_as head ≡ Ok n) where
   pub same_head : (p : ℕ) → p < length head → byte_at (head ++ rest) p ≡ byte_at head p
   same_head p h = get_or-append head rest 0 p h
 
@@ -99,7 +99,7 @@ module _ (head rest : List ℕ) (n : ℕ) (opened : head_as head ≡ Steps n) wh
   long-head = omega (arith, base, length-least head)
 
   -- an accepted head is accepted whatever follows
-  pub head-begins : head_as (head ++ rest) ≡ Steps n
+  pub head-begins : head_as (head ++ rest) ≡ Ok n
   head-begins =
       let file : List ℕ = head ++ rest in
       let size = length-append head rest in
@@ -108,4 +108,4 @@ module _ (head rest : List ℕ) (n : ℕ) (opened : head_as head ≡ Steps n) wh
       in
       let place = base-alike file head (length head) same_head long-head in
       sym (head-steps file (omega (arith, size, base, place)) right (omega (arith, size, base, place)))
-      ∙ ap Steps (steps_alike file head (length head) same_head long-head ∙ head-count head n opened)
+      ∙ ap Ok (steps_alike file head (length head) same_head long-head ∙ head-count head n opened)

@@ -16,7 +16,7 @@ use Rattle.number.proofs.Bytes.{number-moved, table_same}
 use Rattle.isa.specs.State.{state_length, state_of}
 use Rattle.file.specs.declared.FileRefusal.{FileRefusal}
 use Rattle.file.specs.declared.FileRefusal.TheVariants.{Contents}
-use Rattle.file.specs.declared.Opened.TheVariants.{Steps, Refused}
+use Rattle.std.specs.Prelude.{Ok, Err}
 use Rattle.file.specs.File.{file_refusal_number, bytes_from, has_checkpoint, checkpoint_length, contents_length, steps_base, step_count, steps_end, steps_in}
 use Rattle.file.specs.File.{registers_in, start_of, consumed_in, resumed_from, sections_right, checkpoint_right, contents_right, table_right}
 use Rattle.file.specs.File.{paddings_clear, head_as, opened_as, closed_as}
@@ -36,21 +36,21 @@ use Rattle.trace.proofs.Told.{said-alone}
 -- ---- a refusal alone
 
 module _ (file : List ℕ) (r : FileRefusal) where
-  pub shown-three : has_checkpoint file ≡ true → opened_as file ≡ Refused r → shown file [] ≡ refused_line (file_refusal_number r)
+  pub shown-three : has_checkpoint file ≡ true → opened_as file ≡ Err r → shown file [] ≡ refused_line (file_refusal_number r)
   shown-three b e = pick_true _ _ b ∙ ap (again_text file []) e
 
-  shown-two : has_checkpoint file ≡ false → head_as file ≡ Refused r → shown file [] ≡ refused_line (file_refusal_number r)
+  shown-two : has_checkpoint file ≡ false → head_as file ≡ Err r → shown file [] ≡ refused_line (file_refusal_number r)
   unfolding text_of
   shown-two b e = pick_false _ _ b ∙ pick_false _ _ b ∙ ap (streamed_text file) e
 
 -- a head that is refused is so refused as a file
-module _ (head : List ℕ) (r : FileRefusal) (refused : head_as head ≡ Refused r) where
-  head_opened : opened_as head ≡ Refused r
+module _ (head : List ℕ) (r : FileRefusal) (refused : head_as head ≡ Err r) where
+  head_opened : opened_as head ≡ Err r
   head_opened =
       ⊎_elim
       (λ (h : length head < contents_length head). sym (opened-short head h) ∙ head_short head h ∙ refused)
       (λ (long : contents_length head ≤ length head).
-      two (table_right head) (opened_as head ≡ Refused r)
+      two (table_right head) (opened_as head ≡ Err r)
       (λ right.
       ⊎_elim
       (λ (h : length head < steps_base head).
@@ -72,7 +72,7 @@ module _ (head : List ℕ) (r : FileRefusal) (refused : head_as head ≡ Refused
 
 -- ---- two sections: the head is accepted, and steps follow
 
-module _ (head : List ℕ) (n : ℕ) (opened : head_as head ≡ Steps n) (plain : has_checkpoint head ≡ false) (size : length head ≡ 5148) where
+module _ (head : List ℕ) (n : ℕ) (opened : head_as head ≡ Ok n) (plain : has_checkpoint head ≡ false) (size : length head ≡ 5148) where
   pub told-start : Told head n 0 (start_of head) 0
   unfolding text_of
   told-start rest =
@@ -97,7 +97,7 @@ module _ (head : List ℕ) (n : ℕ) (opened : head_as head ≡ Steps n) (plain 
 
 -- ---- three sections
 
-module _ (head : List ℕ) (n : ℕ) (opened : head_as head ≡ Steps n) (three : has_checkpoint head ≡ true) (size : length head ≡ 5160) where
+module _ (head : List ℕ) (n : ℕ) (opened : head_as head ≡ Ok n) (three : has_checkpoint head ≡ true) (size : length head ≡ 5160) where
   -- with bytes behind the head
   module _ (rest : List ℕ) where
     abbrev longer : List ℕ
@@ -206,7 +206,7 @@ module _ (head : List ℕ) (n : ℕ) (opened : head_as head ≡ Steps n) (three 
           in
           two clear (opened_as file ≡ closed_as last n clear)
           (λ t.
-          sym (opened-steps file (reaches behind) contents (paddings ∙ sym told ∙ t)) ∙ ap Steps (counted behind) ∙ close-steps last n clear e h t)
+          sym (opened-steps file (reaches behind) contents (paddings ∙ sym told ∙ t)) ∙ ap Ok (counted behind) ∙ close-steps last n clear e h t)
           (λ f. sym (opened-padding file (reaches behind) contents (paddings ∙ sym told ∙ f)) ∙ close-padding last n clear e h f))
           (lt_or_le n consumed)
 
@@ -221,15 +221,15 @@ module _ (head : List ℕ) (n : ℕ) (opened : head_as head ≡ Steps n) (three 
           (λ e. other (omega (arith, contents-three file e (has behind), length-file, end behind)))
           in sym (opened-contents file (reaches behind) wrong) ∙ close_other last n clear other)
 
-      pub said-closed : (r : FileRefusal) → closed_as last n clear ≡ Refused r
+      pub said-closed : (r : FileRefusal) → closed_as last n clear ≡ Err r
           → Says head 0 (refused_line (file_refusal_number r)) × Follows head (0 + length (refused_line (file_refusal_number r))) []
       said-closed r e =
           said-alone head file (refused_line (file_refusal_number r)) (take-append_seam head behind)
           (shown-three file r (has behind) (opened-closed ∙ e))
 
-      module _ (m : ℕ) (closed : closed_as last n clear ≡ Steps m) where
-        accepted : opened_as file ≡ Steps n
-        accepted = opened-closed ∙ closed ∙ ap Steps (sym (accepted-count file m (opened-closed ∙ closed)) ∙ counted behind)
+      module _ (m : ℕ) (closed : closed_as last n clear ≡ Ok m) where
+        accepted : opened_as file ≡ Ok n
+        accepted = opened-closed ∙ closed ∙ ap Ok (sym (accepted-count file m (opened-closed ∙ closed)) ∙ counted behind)
 
         pub consumed-within : consumed ≤ n
         consumed-within = omega (arith, told-consumed, accepted-consumed file n accepted)

@@ -8,7 +8,7 @@ use native.Mathlib.Omega.{arith}
 use borrow.Author.Tests.{eq-eqb, le-leb}
 use lib.ListN.{length, take, length-append}
 use Rattle.number.specs.Bytes.{byte_at, number, table, bytes_of}
-use Rattle.file.specs.declared.Opened.TheVariants.{Steps}
+use Rattle.std.specs.Prelude.{Ok}
 use Rattle.file.specs.File.{bytes_from, has_checkpoint, checkpoint_length, contents_length, steps_base, most_steps, step_count, steps_end}
 use Rattle.file.specs.File.{registers_in, start_of, steps_in, consumed_in, saved_in, calls, checkpoint_of}
 use Rattle.file.specs.File.{entry_is, sections_right, checkpoint_right, contents_right, paddings_clear, opened_as}
@@ -21,7 +21,7 @@ use Rattle.trace.specs.Trace.{calls_in}
 use Rattle.trace.specs.Resume.{stopped_at, entry_of, contents_of, cut_at, Resumes, EveryCut}
 use Rattle.trace.proofs.Stands.{Stands, stands-whole, stands-front, stands-back, stands_from, stands-number, entry-size, entry-stands}
 
-module _ (whole : List ℕ) (steps : ℕ) (opened : opened_as whole ≡ Steps steps) (k : ℕ) (within : k ≤ steps) where
+module _ (whole : List ℕ) (steps : ℕ) (opened : opened_as whole ≡ Ok steps) (k : ℕ) (within : k ≤ steps) where
   abbrev n : ℕ
   n = step_count whole
 
@@ -171,11 +171,11 @@ module _ (whole : List ℕ) (steps : ℕ) (opened : opened_as whole ≡ Steps st
       sym (by-closed file sections three checkpoint)
       ∙ eq-eqb (length file) (steps_end file + checkpoint_length) (length-file ∙ sym (ap (λ (m : ℕ). m + 5132) end))
 
-  accepted : opened_as file ≡ Steps steps
+  accepted : opened_as file ≡ Ok steps
   accepted =
       sym (opened-steps file (omega (arith, size, length-file)) right
       ((λ i. paddings_clear (same-steps i) (counted i)) ∙ accepted-paddings whole steps opened))
-      ∙ ap Steps (counted ∙ accepted-count whole steps opened)
+      ∙ ap Ok (counted ∙ accepted-count whole steps opened)
 
   goes_on : has_checkpoint whole ≡ false → Resumes file whole
   goes_on plain = record {

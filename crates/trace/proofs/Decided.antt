@@ -12,7 +12,7 @@ use Rattle.number.proofs.Tests.{pick_true, pick_false, two, is_false, true_false
 use Rattle.number.proofs.Bytes.{table_same}
 use Rattle.file.specs.declared.FileRefusal.{FileRefusal}
 use Rattle.file.specs.declared.FileRefusal.TheVariants.{Contents}
-use Rattle.file.specs.declared.Opened.TheVariants.{Refused}
+use Rattle.std.specs.Prelude.{Err}
 use Rattle.file.specs.File.{file_refusal_number, has_checkpoint, checkpoint_length, contents_length, steps_base, steps_end, step_at, sound_in, call_at, calls}
 use Rattle.file.specs.File.{contents_right, table_right, head_as}
 use Rattle.file.proofs.Sound.{sound-is, sound-before, sound-fault, sound-whole}
@@ -60,7 +60,7 @@ module _ (front rest : List ℕ) (long : 28 ≤ length front) where
   reaches : contents_length front ≤ length front → contents_length file ≤ length file
   reaches h = omega (arith, h, contents-alike file front (length front) same long, length-append front rest)
 
-  pub head-decides : (r : FileRefusal) → head_as front ≡ Refused r → steps_base front ≤ length front → text_of file ≡ text_of front
+  pub head-decides : (r : FileRefusal) → head_as front ≡ Err r → steps_base front ≤ length front → text_of file ≡ text_of front
   head-decides r refused full =
       let own : contents_length front ≤ length front = omega (arith, full) in
       let wrong : table_right front ≡ false =

@@ -8,7 +8,7 @@ use lib.ListN.{length, take, drop, take-append-drop}
 use lib.Seq.{length-take-le}
 use Rattle.isa.specs.Call.{Call}
 use Rattle.isa.specs.Step.{run}
-use Rattle.file.specs.declared.Opened.TheVariants.{Steps}
+use Rattle.std.specs.Prelude.{Ok}
 use Rattle.file.specs.File.{step_count, registers_in, start_of, steps_in, consumed_in, resumed_from, opened_as}
 use Rattle.file.proofs.Contents.{consumed-none}
 use Rattle.file.proofs.States.{resumed-start}
@@ -36,7 +36,7 @@ module _ (cs : List Call) (k : ℕ) (s : List ℕ) where
 
 -- ---- a file without a checkpoint, and one that goes on with it
 
-module _ (file whole : List ℕ) (n : ℕ) (opened : opened_as file ≡ Steps n) (uncut : opened_as whole ≡ Steps n) (r : Resumes file whole) where
+module _ (file whole : List ℕ) (n : ℕ) (opened : opened_as file ≡ Ok n) (uncut : opened_as whole ≡ Ok n) (r : Resumes file whole) where
   abbrev cs : List Call
   cs = calls_in whole
 

@@ -21,8 +21,8 @@ use Rattle.file.proofs.Records.{records-exact}
 use Rattle.text.specs.Lines.{steps_line, refused_line}
 use Rattle.text.proofs.Pieces.{Stored, stored_append}
 use Rattle.steps.specs.Steps.{step_lines}
-use Rattle.trace.specs.declared.Ran.{Ran}
-use Rattle.trace.specs.declared.Ran.TheVariants.{On, Stopped}
+use Rattle.std.specs.declared.ops.ControlFlow.{ControlFlow}
+use Rattle.std.specs.declared.ops.ControlFlow.TheVariants.{Continue, Break}
 use Rattle.trace.specs.Trace.{z_lines, end_text}
 use Rattle.trace.specs.Runs.{run_text, ran_to, ran_as}
 use Rattle.trace.proofs.Halves.{calls-front}
@@ -58,7 +58,7 @@ module _ (m : ℕ) (part : List ℕ) where
       ∙ calls-front part k k (omega arith)
 
 -- what a run promises of the state, the buffer and the answer
-abbrev pub Runs : ℕ → ℕ → List ℕ → List ℕ → List ℕ → List ℕ → List ℕ → Ran → Type 0
+abbrev pub Runs : ℕ → ℕ → List ℕ → List ℕ → List ℕ → List ℕ → List ℕ → ControlFlow ℕ ℕ → Type 0
 Runs m i s part out s' out' r = (s' ≡ ran_to m s part) × (out' ≡ sets out 0 (run_text m i s part)) × (r ≡ ran_as m i s part)
 
 module _ (m left i : ℕ) (told : m ≡ run_of left) (s part out s' out' : List ℕ) (k at : ℕ) (cs : List Call) (found : k ≡ sound_in part m)
@@ -67,28 +67,28 @@ module _ (m left i : ℕ) (told : m ≡ run_of left) (s part out s' out' : List 
   these = lent ∙ ap (calls part) found
 
   -- of the steps that the run has by what is left
-  by_left : (out'' : List ℕ) (r : Ran) → Runs m i s part out s' out'' r → Runs (run_of left) i s part out s' out'' r
+  by_left : (out'' : List ℕ) (r : ControlFlow ℕ ℕ) → Runs m i s part out s' out'' r → Runs (run_of left) i s part out s' out'' r
   by_left out'' r runs = subst (λ (j : ℕ). Runs j i s part out s' out'' r) told runs
 
   state : s' ≡ ran_to m s part
   state = ran ∙ ap (λ (c : List Call). run c s) these
 
-  pub runs_on : k ≡ m → Runs (run_of left) i s part out s' out' (On at)
+  pub runs_on : k ≡ m → Runs (run_of left) i s part out s' out' (Continue at)
   runs_on e =
-      by_left out' (On at)
+      by_left out' (Continue at)
       (let all : sound_in part m ≡ m = sym found ∙ e in
       let text : step_lines cs i s ≡ run_text m i s part =
       ap (λ (c : List Call). step_lines c i s) (lent ∙ ap (calls part) e) ∙ sym (text-on m i s part all)
       in (
         state,
         lines ∙ ap (sets out 0) text,
-        ap On (size ∙ ap length text) ∙ sym (pick_false _ _ (ap (λ (j : ℕ). ltb j m) all ∙ le-ltb m m (omega arith))),
+        ap Continue (size ∙ ap length text) ∙ sym (pick_false _ _ (ap (λ (j : ℕ). ltb j m) all ∙ le-ltb m m (omega arith))),
       ))
 
   pub runs-stop : (k ≡ m → ⊥) → (refusal : FileRefusal) → refusal ≡ fault_at part k → (out'' : List ℕ) (r : ℕ)
-      → Stored out' at (refused_line (file_refusal_number refusal)) out'' r → Runs (run_of left) i s part out s' out'' (Stopped r)
+      → Stored out' at (refused_line (file_refusal_number refusal)) out'' r → Runs (run_of left) i s part out s' out'' (Break r)
   runs-stop f refusal e out'' r last =
-      by_left out'' (Stopped r)
+      by_left out'' (Break r)
       (let less : sound_in part m < m = ⊎_elim (λ h. h) (λ h. absurd (f (omega (arith, found, h, sound-most part m)))) (lt_or_le (sound_in part m) m) in
       let fault : refusal ≡ fault_at part (sound_in part m) = e ∙ ap (fault_at part) found in
       let line : List ℕ = refused_line (file_refusal_number refusal) in
@@ -100,7 +100,7 @@ module _ (m left i : ℕ) (told : m ≡ run_of left) (s part out s' out' : List 
       in (
         state,
         both.0 ∙ ap (sets out 0) text,
-        ap Stopped (both.1 ∙ ap length text) ∙ sym (pick_true _ _ (lt-ltb (sound_in part m) m less)),
+        ap Break (both.1 ∙ ap length text) ∙ sym (pick_true _ _ (lt-ltb (sound_in part m) m less)),
       ))
 
 -- ---- the end

@@ -3,16 +3,17 @@
 use mathlib.Core.Path.{◌≡◌, refl, sym, ap, subst, ◌∙◌}
 use mathlib.Core.Bool.{Bool, true, false, not}
 use mathlib.Core.List.{List, []}
-use mathlib.Core.Logic.{⊎_elim}
 use Prim.Native.Nat.{ℕ, ◌+◌, ◌*◌, ◌≤◌, ◌<◌}
 use native.Mathlib.Nat.{add-zero}
 use native.Mathlib.Numerals.{add-one}
 use native.Mathlib.Omega.{arith}
-use borrow.Author.Tests.{eq-eqb, ne_eqb}
+use borrow.Author.Tests.{eq-eqb, eqb-true}
 use lib.Dec.{eqb}
 use lib.ListN.{length}
+use lib.Pointwise.{pointwise, bytes_decides}
+use Rattle.std.proofs.Common.{ext_get_or}
 use Rattle.number.specs.Bytes.{byte_at}
-use Rattle.number.proofs.Tests.{pick_true, pick_false, is_false, true_false, lt_or_le}
+use Rattle.number.proofs.Tests.{pick_true, pick_false, is_false, true_false, two}
 use Rattle.number.proofs.Bytes.{length-table}
 use Rattle.file.specs.File.{all}
 use Rattle.file.proofs.Paddings.{all-at, all_true}
@@ -23,43 +24,36 @@ use Rattle.trace.specs.Trace.{row_of, differ, row_changed, row_line, row_lines, 
 
 -- ---- two rows
 
--- bytes that are the same, one after another
-abbrev pub Same : List ℕ → List ℕ → ℕ → Type 0
-Same a b n = (j : ℕ) → j < n → byte_at a j ≡ byte_at b j
+-- whether two rows differ, by whether they are the same list
+pub differs : (a b : List ℕ) → length a ≡ 64 → length b ≡ 64 → not (pointwise eqb a b) ≡ differ a b
+unfolding differ
+differs a b la lb =
+    two (pointwise eqb a b) (not (pointwise eqb a b) ≡ not (all same 64))
+    (λ t.
+    let e : a ≡ b = (bytes_decides a b).0 t in
+    ap not (t ∙ sym (all_true same 64 (λ j l. eq-eqb (byte_at a j) (byte_at b j) (ap (λ (s : List ℕ). byte_at s j) e)))))
+    (λ f. ap not (f ∙ sym (is_false (all same 64) (λ t. true_false (sym ((bytes_decides a b).1 (alike t)) ∙ f)))))
+  where
+    same : ℕ → Bool
+    same k = eqb (byte_at a k) (byte_at b k)
 
-module _ (a b : List ℕ) where
-  abbrev byte-same : ℕ → Bool
-  byte-same k = eqb (byte_at a k) (byte_at b k)
-
-  pub differ-at : (k : ℕ) → k < 64 → (byte_at a k ≡ byte_at b k → ⊥) → true ≡ differ a b
-  unfolding differ
-  differ-at k h f =
-      sym (ap not (is_false (all byte-same 64) (λ t. true_false (sym (all-at byte-same 64 t k h) ∙ ne_eqb (byte_at a k) (byte_at b k) f))))
-
-  pub differ-not : (k : ℕ) → 64 ≤ k → Same a b k → false ≡ differ a b
-  unfolding differ
-  differ-not k h s = sym (ap not (all_true byte-same 64 (λ j l. eq-eqb (byte_at a j) (byte_at b j) (s j (omega arith)))))
-
-pub same_more : (a b : List ℕ) (k : ℕ) → Same a b k → byte_at a k ≡ byte_at b k → Same a b (k + 1)
-same_more a b k old e j h =
-    ⊎_elim
-    (λ less. old j less)
-    (λ more.
-    let here : k ≡ j = omega arith in
-    subst (λ (i : ℕ). byte_at a i ≡ byte_at b i) here e)
-    (lt_or_le j k)
+    alike : all same 64 ≡ true → a ≡ b
+    alike t = ext_get_or 0 a b (la ∙ sym lb) (λ j l. eqb-true (byte_at a j) (byte_at b j) (all-at same 64 t j (omega (arith, la, l))))
 
 -- ---- a row's line, by the branches of the code
 
 module _ (start state before after : List ℕ) (r : ℕ) (h : r < 64) (b : before ≡ row_of start r) (a : after ≡ row_of state r) where
-  changed : (t : Bool) → t ≡ differ before after → t ≡ row_changed start state r
-  changed t e = e ∙ (λ i. differ (b i) (a i))
+  changed : not (pointwise eqb before after) ≡ row_changed start state r
+  changed =
+      differs before after (ap length b ∙ length-table (λ k. byte_at start (1024 + r * 64 + k)) 0 64)
+      (ap length a ∙ length-table (λ k. byte_at state (1024 + r * 64 + k)) 0 64)
+      ∙ (λ i. differ (b i) (a i))
 
-  pub line-none : (t : Bool) → t ≡ differ before after → t ≡ false → [] ≡ row_line start state r
-  line-none t e f = sym (pick_false _ _ (sym (changed t e) ∙ f))
+  pub line-none : true ≡ pointwise eqb before after → [] ≡ row_line start state r
+  line-none e = sym (pick_false _ _ (sym changed ∙ ap not (sym e)))
 
-  pub line-there : (t : Bool) → t ≡ differ before after → t ≡ true → z_line r after ≡ row_line start state r
-  line-there t e f = ap (z_line r) a ∙ sym (pick_true _ _ (sym (changed t e) ∙ f))
+  pub line-there : false ≡ pointwise eqb before after → z_line r after ≡ row_line start state r
+  line-there e = ap (z_line r) a ∙ sym (pick_true _ _ (sym changed ∙ ap not (sym e)))
 
   pub line-fits : length (z_line r after) ≤ 152
   line-fits = z_short r after h (ap length a ∙ length-table (λ k. byte_at state (1024 + r * 64 + k)) 0 64)

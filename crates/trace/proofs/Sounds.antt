@@ -11,7 +11,7 @@ use lib.Seq.{take_all}
 use Rattle.number.specs.Bytes.{byte_at}
 use Rattle.number.proofs.Tests.{pick_true, pick_false, two}
 use Rattle.isa.specs.Step.{run}
-use Rattle.file.specs.declared.Opened.TheVariants.{Steps}
+use Rattle.std.specs.Prelude.{Ok}
 use Rattle.file.specs.File.{bytes_from, has_checkpoint, steps_base, step_at, step_count, registers_in, start_of, steps_in, consumed_in, resumed_from}
 use Rattle.file.specs.File.{sound_in, calls, padding_clear, paddings_clear, opened_as}
 use Rattle.file.proofs.Sound.{sound-is, sound-there, padding-moved}
@@ -54,7 +54,7 @@ module _ (registers : List ℕ) (n i : ℕ) (s bytes : List ℕ) (size : length 
 
 -- ---- a file that is sound as a whole
 
-module _ (file : List ℕ) (n : ℕ) (opened : opened_as file ≡ Steps n) where
+module _ (file : List ℕ) (n : ℕ) (opened : opened_as file ≡ Ok n) where
   abbrev k : ℕ
   k = consumed_in file
 

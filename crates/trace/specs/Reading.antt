@@ -2,8 +2,7 @@
 -- Assumes nothing.
 use Rattle.std.specs.Prelude.{◌≡◌, true, cond, List, ◌++◌, ℕ, suc, ◌+◌, ◌-◌, ◌*◌, ◌≤◌, ◌<◌, length, take}
 use Rattle.file.specs.declared.FileRefusal.{FileRefusal}
-use Rattle.file.specs.declared.Opened.{Opened}
-use Rattle.file.specs.declared.Opened.TheVariants.{Steps, Refused}
+use Rattle.std.specs.Prelude.{Result, Ok, Err}
 use Rattle.file.specs.File.{file_refusal_number, bytes_from, has_checkpoint, checkpoint_length, steps_base, step_bytes, step_at, steps_end}
 use Rattle.file.specs.File.{registers_in, consumed_in, resumed_from, sound_in, head_as, opened_as}
 use Rattle.text.specs.Lines.{refused_line}
@@ -13,9 +12,9 @@ use Rattle.trace.specs.Trace.{text_read, text_of}
 
 -- The steps that are run are the second reading's, from the first that is not consumed on, and they are looked at again as they are read. The table, the
 -- registers and the checkpoint are the first's.
-abbrev pub again_text : List ℕ → List ℕ → Opened → List ℕ
-again_text file again (Steps n) = text_read (registers_in file) (n - consumed_in file) (consumed_in file) (resumed_from file) again
-again_text file again (Refused r) = refused_line (file_refusal_number r)
+abbrev pub again_text : List ℕ → List ℕ → Result ℕ FileRefusal → List ℕ
+again_text file again (Ok n) = text_read (registers_in file) (n - consumed_in file) (consumed_in file) (resumed_from file) again
+again_text file again (Err r) = refused_line (file_refusal_number r)
 
 -- what is printed of a file, and of the bytes of its steps that are read again
 abbrev pub shown : List ℕ → List ℕ → List ℕ
@@ -27,14 +26,14 @@ left_in file n = bytes_from file (steps_base file + step_bytes * consumed_in fil
 
 -- a file that has not changed in between prints its text
 abbrev pub ReadTwice : Type 0
-ReadTwice = (file : List ℕ) (n : ℕ) → opened_as file ≡ Steps n → shown file (left_in file n) ≡ text_of file
+ReadTwice = (file : List ℕ) (n : ℕ) → opened_as file ≡ Ok n → shown file (left_in file n) ≡ text_of file
 
 -- ---- what is not read
 
 -- A reading stops where the text is decided: at a head that is all there and refused; at a whole step that is not sound, so that of a bad padding and a
 -- later wrong length the first met counts; at a byte behind the last step; and at one behind the checkpoint. What follows changes nothing.
 pub record Decided : Type 0 where
-  pub heads : (head rest : List ℕ) (r : FileRefusal) → head_as head ≡ Refused r → steps_base head ≤ length head → text_of (head ++ rest) ≡ text_of head
+  pub heads : (head rest : List ℕ) (r : FileRefusal) → head_as head ≡ Err r → steps_base head ≤ length head → text_of (head ++ rest) ≡ text_of head
   pub steps : (registers : List ℕ) (left i : ℕ) (s bytes rest : List ℕ) → sound_in bytes left < left → step_at (suc (sound_in bytes left)) ≤ length bytes
       → text_read registers left i s (bytes ++ rest) ≡ text_read registers left i s bytes
   pub ends : (registers : List ℕ) (left i : ℕ) (s bytes rest : List ℕ) → sound_in bytes left ≡ left → step_at left < length bytes

@@ -9,7 +9,7 @@ use Rattle.isa.specs.Call.{Call, call}
 use Rattle.isa.specs.Step.{run, answers}
 use Rattle.isa.specs.Swap.{swap_at, MaySwap, MaySwapAt}
 use Rattle.isa.specs.Serials.{sum}
-use Rattle.file.specs.declared.Opened.TheVariants.{Steps}
+use Rattle.std.specs.Prelude.{Ok}
 use Rattle.file.specs.File.{has_checkpoint, checkpoint_length, step_bytes, step_count, registers_in, start_of, steps_in, consumed_in, resumed_from}
 use Rattle.file.specs.File.{opened_as, checkpoint_of}
 use Rattle.steps.specs.Steps.{step_lines}
@@ -36,7 +36,7 @@ pub record Resumes (file whole : List ℕ) : Type 0 where
 -- lines", and what follows them is the same too.
 abbrev pub WholeRun : Type 0
 WholeRun =
-    (file whole : List ℕ) (n : ℕ) → opened_as file ≡ Steps n → opened_as whole ≡ Steps n → Resumes file whole
+    (file whole : List ℕ) (n : ℕ) → opened_as file ≡ Ok n → opened_as whole ≡ Ok n → Resumes file whole
     → (ended file ≡ ended whole)
     × (lines_to whole (consumed_in file) ++ step_lines (remaining file) (consumed_in file) (resumed_from file)
     ≡ step_lines (remaining whole) (consumed_in whole) (resumed_from whole))
@@ -59,8 +59,8 @@ cut_at whole k = contents_of (step_count whole) ++ registers_in whole ++ steps_i
 
 abbrev pub EveryCut : Type 0
 EveryCut =
-    (whole : List ℕ) (n : ℕ) → opened_as whole ≡ Steps n → has_checkpoint whole ≡ false → (k : ℕ) → k ≤ n
-    → (opened_as (cut_at whole k) ≡ Steps n) × (consumed_in (cut_at whole k) ≡ k) × Resumes (cut_at whole k) whole
+    (whole : List ℕ) (n : ℕ) → opened_as whole ≡ Ok n → has_checkpoint whole ≡ false → (k : ℕ) → k ≤ n
+    → (opened_as (cut_at whole k) ≡ Ok n) × (consumed_in (cut_at whole k) ≡ k) × Resumes (cut_at whole k) whole
 
 -- ---- "a swap across the cut would run one step twice and another never"
 

@@ -5,8 +5,8 @@ use Rattle.isa.specs.Step.{run}
 use Rattle.file.specs.File.{file_refusal_number, step_bytes, run_of, sound_in, fault_at, calls}
 use Rattle.text.specs.Lines.{refused_line}
 use Rattle.steps.specs.Steps.{step_lines}
-use Rattle.trace.specs.declared.Ran.{Ran}
-use Rattle.trace.specs.declared.Ran.TheVariants.{On, Stopped}
+use Rattle.std.specs.declared.ops.ControlFlow.{ControlFlow}
+use Rattle.std.specs.declared.ops.ControlFlow.TheVariants.{Continue, Break}
 use Rattle.trace.specs.Trace.{end_text, text_read}
 
 -- ---- one run
@@ -22,8 +22,8 @@ abbrev pub ran_to : ℕ → List ℕ → List ℕ → List ℕ
 ran_to m s part = run (calls part (sound_in part m)) s
 
 -- what it answers: the length of its text, and whether the next run follows
-abbrev pub ran_as : ℕ → ℕ → List ℕ → List ℕ → Ran
-ran_as m i s part = let size = length (run_text m i s part) in cond (ltb (sound_in part m) m) (Stopped size) (On size)
+abbrev pub ran_as : ℕ → ℕ → List ℕ → List ℕ → ControlFlow ℕ ℕ
+ran_as m i s part = let size = length (run_text m i s part) in cond (ltb (sound_in part m) m) (Break size) (Continue size)
 
 -- ---- runs one behind the other, by the number of steps in each
 

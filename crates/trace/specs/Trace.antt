@@ -6,8 +6,8 @@ use Rattle.isa.specs.State.{z_base, rows, row_bytes}
 use Rattle.isa.specs.Call.{Call}
 use Rattle.isa.specs.Step.{run, answers}
 use Rattle.isa.specs.Swap.{swaps, Allowed}
-use Rattle.file.specs.declared.Opened.{Opened}
-use Rattle.file.specs.declared.Opened.TheVariants.{Steps, Refused}
+use Rattle.std.specs.Prelude.{Result, Ok, Err}
+use Rattle.file.specs.declared.FileRefusal.{FileRefusal}
 use Rattle.file.specs.declared.FileRefusal.TheVariants.{Contents}
 use Rattle.file.specs.File.{file_refusal_number, all, has_checkpoint, steps_base, step_count, step_at, registers_in, start_of, steps_in, consumed_in}
 use Rattle.file.specs.File.{resumed_from}
@@ -79,14 +79,14 @@ abbrev pub accepted_text : List ℕ → ℕ → List ℕ
 accepted_text file n = step_lines (remaining file) (consumed_in file) (resumed_from file) ++ z_lines (registers_in file) (ended file) ++ steps_line n
 
 -- "all of it is checked first, so its refusals still come before any line": with a checkpoint
-abbrev pub checked_text : List ℕ → Opened → List ℕ
-checked_text file (Steps n) = accepted_text file n
-checked_text file (Refused r) = refused_line (file_refusal_number r)
+abbrev pub checked_text : List ℕ → Result ℕ FileRefusal → List ℕ
+checked_text file (Ok n) = accepted_text file n
+checked_text file (Err r) = refused_line (file_refusal_number r)
 
 -- without one, by its head: the refusal alone, or the steps as they are read
-abbrev pub streamed_text : List ℕ → Opened → List ℕ
-streamed_text file (Steps n) = text_read (registers_in file) n 0 (start_of file) (drop (steps_base file) file)
-streamed_text file (Refused r) = refused_line (file_refusal_number r)
+abbrev pub streamed_text : List ℕ → Result ℕ FileRefusal → List ℕ
+streamed_text file (Ok n) = text_read (registers_in file) n 0 (start_of file) (drop (steps_base file) file)
+streamed_text file (Err r) = refused_line (file_refusal_number r)
 
 -- the text of a file, whatever its bytes are
 unfoldable pub text_of : List ℕ → List ℕ
@@ -97,12 +97,12 @@ text_of file = cond (has_checkpoint file) (checked_text file (opened_as file)) (
 -- "Old accepted files mean what they meant and are written the same": what is sound as a whole, by rules of which only the limit was moved, has the text
 -- that it had
 abbrev pub Unchanged : Type 0
-Unchanged = (file : List ℕ) (n : ℕ) → opened_as file ≡ Steps n → text_of file ≡ accepted_text file n
+Unchanged = (file : List ℕ) (n : ℕ) → opened_as file ≡ Ok n → text_of file ≡ accepted_text file n
 
 -- "The steps of an accepted trace file are such a list": every chain of allowed swaps of them leaves the same state and the same answers. "When such a
 -- file is resumed, demand 3's list is the steps not yet consumed, run from the saved state."
 abbrev pub FileRearranged : Type 0
 FileRearranged =
-    (file : List ℕ) (n : ℕ) → opened_as file ≡ Steps n → (chain : List ℕ) → Allowed (resumed_from file) chain (remaining file)
+    (file : List ℕ) (n : ℕ) → opened_as file ≡ Ok n → (chain : List ℕ) → Allowed (resumed_from file) chain (remaining file)
     → (run (swaps chain (remaining file)) (resumed_from file) ≡ ended file)
     × (answers (swaps chain (remaining file)) (resumed_from file) ≡ swaps chain (answers (remaining file) (resumed_from file)))

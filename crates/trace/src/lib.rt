@@ -6,15 +6,11 @@ ghost use Rattle.std.proofs.lemmas.List.Edits.{sets};
 ghost use Rattle.number.specs.Bytes.{byte_at, table};
 ghost use Rattle.file.specs.File.{file_refusal_number, run_of};
 ghost use Rattle.text.specs.Lines.{refused_line};
-ghost use Rattle.trace.specs.Trace.{differ, row_line, z_lines, end_text};
+ghost use Rattle.trace.specs.Trace.{row_line, z_lines, end_text};
 ghost use Rattle.trace.specs.Runs.{run_text, ran_to, ran_as};
 
-// What a run answers: the length of its text, and whether the next one follows or the file is refused in it.
-#[derive(Clone, Copy)]
-pub enum Ran {
-    On(usize),
-    Stopped(usize),
-}
+use number::Lane;
+use std::ops::ControlFlow;
 
 // ---- rows of Z
 
@@ -23,22 +19,7 @@ fn row_at(s: &[u8], at: usize) -> [u8; 64]
     requires { at < 65536 }
     ensures { result ≡ table (λ k. byte_at s.now (at + k)) 0 64 }
 {
-    let mut out = [0u8; 64];
-    for k in 0..64 {
-        out[k] = number::get8(s, at + k);
-    }
-    out
-}
-
-fn rows_differ(a: &[u8; 64], b: &[u8; 64]) -> bool
-    ensures { result ≡ differ a.now b.now }
-{
-    for k in 0..64 {
-        if a[k] != b[k] {
-            return true;
-        }
-    }
-    false
+    std::array::from_fn(|k| u8::get(s, at + k))
 }
 
 // A row's line, where the row differs from the starting registers.
@@ -51,7 +32,7 @@ fn print_row(start: &[u8], state: &[u8], out: &mut [u8], at: usize, row: usize) 
     let place = 1024 + row * 64;
     let before = row_at(start, place);
     let after = row_at(state, place);
-    if !rows_differ(&before, &after) {
+    if before == after {
         return at;
     }
     text::z_line(out, at as u32, row as u32, &after)
@@ -71,8 +52,15 @@ fn print_rows(start: &[u8], state: &[u8], out: &mut [u8]) -> usize
 
 // ---- files
 
-// A run of the steps in these bytes, 2,048 at most, where so many are left: the sound ones run, with their lines, and the refusal where one is not.
-pub fn print_run(part: &[u8], state: &mut [u8], out: &mut [u8], first: u32, left: usize) -> Ran
+// A run of the steps in these bytes, 2,048 at most, where so many are left: the sound ones run, with their lines, and the refusal where one is not. The
+// answer is the length of its text, and whether the next run follows.
+pub fn print_run(
+    part: &[u8],
+    state: &mut [u8],
+    out: &mut [u8],
+    first: u32,
+    left: usize,
+) -> ControlFlow<usize, usize>
     ensures { (state.new ≡ ran_to (run_of left) state.old part.now)
         × (out.new ≡ sets out.old 0 (run_text (run_of left) first state.old part.now))
         × (result ≡ ran_as (run_of left) first state.old part.now) }
@@ -81,10 +69,10 @@ pub fn print_run(part: &[u8], state: &mut [u8], out: &mut [u8], first: u32, left
     let k = file::sound_records(part, m as u32);
     let at = steps::run(&part[..16 * k], state, out, first);
     if k == m {
-        return Ran::On(at);
+        return ControlFlow::Continue(at);
     }
-    let number = file::file_refusal_number(file::fault_at(part, k as u32));
-    Ran::Stopped(text::refused_line(out, at as u32, number as u32))
+    let number = u32::from(file::fault_at(part, k as u32));
+    ControlFlow::Break(text::refused_line(out, at as u32, number))
 }
 
 // The refusal of a file.
@@ -92,8 +80,7 @@ pub fn print_refused(out: &mut [u8], refusal: file::FileRefusal) -> usize
     ensures { (out.new ≡ sets out.old 0 (refused_line (file_refusal_number refusal)))
         × (result ≡ length (refused_line (file_refusal_number refusal))) }
 {
-    let number = file::file_refusal_number(refusal);
-    text::refused_line(out, 0, number as u32)
+    text::refused_line(out, 0, u32::from(refusal))
 }
 
 // What ends the text of a file with n steps: the rows that differ from the starting registers, and n; or the refusal, where there are bytes behind them.

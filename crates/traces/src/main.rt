@@ -13,7 +13,7 @@ fn print_named(rt: &HostRuntime, i: usize) -> bool {
     };
     let _ = rt.write_all(&path[..n]);
     let _ = rt.write_all(b"\n");
-    disk::print_file(rt, &path[..n]);
+    let _ = disk::print_file(rt, &path[..n]);
     true
 }
 

@@ -45,24 +45,24 @@ abbrev pub lane_by : Format → ℕ → List ℕ → List ℕ → List ℕ → �
 lane_by f mode x y z l = Vecfp.alu f mode (get_or x l 0) (get_or y l 0) (get_or z l 0)
 
 -- lists that are made by an operation
-abbrev made : Format → (ℕ → ℕ → ℕ) → List ℕ → List ℕ → List ℕ
-made f op a b = table (each op a b) 0 (lanes_in f)
+abbrev made : ℕ → (ℕ → ℕ → ℕ) → List ℕ → List ℕ → List ℕ
+made n op a b = table (each op a b) 0 n
 
-module _ (f : Format) (mode : ℕ) (x y z : List ℕ) {r : List ℕ} where
+module _ (f : Format) (n : ℕ) (en : n ≡ lanes_in f) (mode : ℕ) (x y z : List ℕ) {r : List ℕ} where
   -- from each lane to all
-  all_lanes : (op : ℕ → ℕ) → ((l : ℕ) → op l ≡ lane_by f mode x y z l) → r ≡ table op 0 (lanes_in f) → r ≡ alu_lanes f mode x y z
-  all_lanes op lane er = er ∙ (λ i. table (λ l. lane l i) 0 (lanes_in f))
+  all_lanes : (op : ℕ → ℕ) → ((l : ℕ) → op l ≡ lane_by f mode x y z l) → r ≡ table op 0 n → r ≡ alu_lanes f mode x y z
+  all_lanes op lane er = er ∙ (λ i. table (λ l. lane l i) 0 (en i))
 
-  pub lanes-4 : mode ≡ 4 → r ≡ made f (selected f) x y → r ≡ alu_lanes f mode x y z
+  pub lanes-4 : mode ≡ 4 → r ≡ made n (selected f) x y → r ≡ alu_lanes f mode x y z
   lanes-4 e = all_lanes _ (λ l. in-mode-4 f mode (get_or x l 0) (get_or y l 0) (get_or z l 0) e)
 
-  pub lanes-10 : (mode ≡ 4 → ⊥) → mode ≡ 10 → r ≡ made f (multiplied f) x y → r ≡ alu_lanes f mode x y z
+  pub lanes-10 : (mode ≡ 4 → ⊥) → mode ≡ 10 → r ≡ made n (multiplied f) x y → r ≡ alu_lanes f mode x y z
   lanes-10 not4 e = all_lanes _ (λ l. in-mode-10 f mode (get_or x l 0) (get_or y l 0) (get_or z l 0) not4 e)
 
-  pub lanes-11 : (mode ≡ 4 → ⊥) → (mode ≡ 10 → ⊥) → mode ≡ 11 → r ≡ made f (added f) z x → r ≡ alu_lanes f mode x y z
+  pub lanes-11 : (mode ≡ 4 → ⊥) → (mode ≡ 10 → ⊥) → mode ≡ 11 → r ≡ made n (added f) z x → r ≡ alu_lanes f mode x y z
   lanes-11 not4 not10 e = all_lanes _ (λ l. in-mode-11 f mode (get_or x l 0) (get_or y l 0) (get_or z l 0) not4 not10 e)
 
-  pub lanes-12 : (mode ≡ 4 → ⊥) → (mode ≡ 10 → ⊥) → (mode ≡ 11 → ⊥) → r ≡ made f (added f) z y → r ≡ alu_lanes f mode x y z
+  pub lanes-12 : (mode ≡ 4 → ⊥) → (mode ≡ 10 → ⊥) → (mode ≡ 11 → ⊥) → r ≡ made n (added f) z y → r ≡ alu_lanes f mode x y z
   lanes-12 not4 not10 not11 = all_lanes _ (λ l. in-mode-12 f mode (get_or x l 0) (get_or y l 0) (get_or z l 0) not4 not10 not11)
 
 module _ (f : Format) (x y z : List ℕ) {r : List ℕ} where

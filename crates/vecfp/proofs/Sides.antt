@@ -1,27 +1,21 @@
 -- The lanes of X and of Y: those loaded, and the lane that each lane uses. Over the format.
 -- Assumes nothing.
-use mathlib.Core.Path.{◌≡◌, refl, sym, ap, ◌∙◌}
-use mathlib.Core.Bool.{Bool, true, false, cond, not, ◌&&◌}
-use mathlib.Core.List.{List}
-use Prim.Native.Nat.{ℕ, zero, suc, ◌+◌, ◌*◌, ◌%◌, ◌≤◌, ◌<◌}
-use native.Mathlib.Nat.{zero-add, zero-mod, mod-lt, mul_comm}
-use native.Mathlib.Omega.{arith}
-use lib.Arith.{digits_lt}
-use lib.Dec.{eqb}
+use Rattle.std.proofs.Common.{◌≡◌, ℕ, zero, suc, ◌+◌, ◌*◌, ◌%◌, ◌≤◌, ◌<◌, Bool, true, false, cond, not, ◌&&◌, eqb, List, ◌∷◌, length, take, map, replicate}
+use Rattle.std.proofs.Common.{Option, Some, None, get_or, refl, sym, ap, ◌∙◌, zero-add, mod-lt, get_or-take, eq-eqb, ne_eqb, arith}
+use Rattle.std.proofs.lemmas.List.{get_or-map}
+use native.Mathlib.Nat.{zero-mod}
 use lib.Ieee.{Format, binary32, binary64}
-use lib.ListN.{take, get_or}
-use lib.Seq.{get_or-take}
-use borrow.Author.Tests.{le-leb, lt-leb, eq-eqb, ne_eqb}
 use Rattle.number.specs.Bytes.{byte_at, number, table}
-use Rattle.number.proofs.Bytes.{get_d-table, table_same, number_same}
+use Rattle.number.proofs.Bytes.{get_d-table, number_same}
 use Rattle.number.proofs.Tests.{either, pick_true, pick_false}
 use Rattle.isa.specs.State.{x_base, y_base, loaded}
 use Rattle.isa.specs.Vecint as Vecint
 use Rattle.isa.specs.Vecfp as Vecfp
 use Rattle.isa.specs.Vecfp.{width}
-use Rattle.operand.proofs.Fields.{bits-lt}
+use Rattle.state.proofs.Numbers as Numbers
+use Rattle.masks.proofs.Bools.{same-all}
 use Rattle.vecfp.specs.declared.Side.{Side}
-use Rattle.vecfp.specs.Vectors.{own, x_lane, y_lane, lane_used, lanes_in, side_byte, words_of, side_lanes}
+use Rattle.vecfp.specs.Vectors.{Fills, x_lane, y_lane, lane_used, lanes_in, byte_from, side_byte, words_of, side_lanes}
 
 -- lanes fill a row, and 64 bytes of a side
 pub fits : (f : Format) → lanes_in f * width f ≡ 64
@@ -39,69 +33,66 @@ few-lanes binary64 = omega arith
 pub at : {A : Type 0} (d : A) (f : ℕ → A) (n k : ℕ) → k < n → get_or (table f 0 n) k d ≡ f k
 at d f n k h = get_d-table f d 0 n k h ∙ ap f (zero-add k)
 
--- ---- a load
+module _ (f : Format) (b n : ℕ) (fills : Fills f b n) where
+  pub row-filled : n * b ≡ 64
+  row-filled = (λ i. fills.1 i * fills.0 i) ∙ fits f
 
-module _ (f : Format) (s : List ℕ) (base from : ℕ) where
-  -- the word of lane l, by a list of the bytes
-  held_word : (bytes : List ℕ) → bytes ≡ table (loaded s base from) 0 64 → (l : ℕ) → l < lanes_in f
-      → number (width f) (byte_at bytes) (width f * l) ≡ number (width f) (loaded s base from) (width f * l)
-  held_word bytes eb l hl = number_same (width f) (byte_at bytes) (loaded s base from) (width f * l) byte
-    where
-      byte : (k : ℕ) → k < width f → byte_at bytes (width f * l + k) ≡ loaded s base from (width f * l + k)
-      byte k hk =
-          let inside : l * width f + k < lanes_in f * width f = digits_lt hl hk in
-          ap (λ (x : List ℕ). byte_at x (width f * l + k)) eb
-          ∙ at 0 (loaded s base from) 64 (width f * l + k) (omega (arith, inside, fits f, mul_comm (width f) l))
+  pub lanes-some : 0 < n
+  lanes-some = omega (arith, fills.1, some_lanes f)
 
-  pub load-words : {bytes r : List ℕ} → bytes ≡ table (loaded s base from) 0 64 → r ≡ words_of f (byte_at bytes) → r ≡ words_of f (loaded s base from)
-  load-words {bytes} eb er = er ∙ table_same _ _ (lanes_in f) (held_word bytes eb)
+  -- the numbers of bytes
+  module _ (g : ℕ → ℕ) {r : List ℕ} where
+    pub numbers-of : (bytes : List ℕ) → bytes ≡ table g 0 64 → r ≡ table (λ l. number b (byte_at bytes) (b * l)) 0 n → r ≡ words_of f g
+    numbers-of bytes eb er =
+        Numbers.words_of b n row-filled g bytes r eb er ∙ (λ i. table (λ l. number (fills.0 i) g (fills.0 i * l)) 0 (fills.1 i))
 
 -- ---- a side
 
-nought : (b : ℕ) (g : ℕ → ℕ) → ((i : ℕ) → g i ≡ 0) → (p : ℕ) → number b g p ≡ 0
-unfolding number
-nought zero g none p = refl
-nought (suc b) g none p = omega (arith, none p, nought b g none (suc p))
+map-replicate : {A B : Type 0} (p : A → B) (n : ℕ) (x : A) → map p (replicate n x) ≡ replicate n (p x)
+map-replicate p zero x = refl
+map-replicate p (suc n) x = ap (λ (l : _). p x ∷ l) (map-replicate p n x)
 
--- what is loaded for it
-abbrev loaded_for : List ℕ → Side → ℕ → ℕ
-loaded_for s side = loaded s (cond side.y y_base x_base) side.from
+module _ (f : Format) (s : List ℕ) (side : Side) where
+  pub side-own : {r : List ℕ} → side.lane ≡ None → r ≡ words_of f (side_byte s side) → r ≡ side_lanes f s side
+  side-own e er = er ∙ (λ i. table (λ l. number (width f) (side_byte s side) (width f * lane_used (lanes_in f) (sym e i) l)) 0 (lanes_in f))
 
-module _ (f : Format) (s : List ℕ) (side : Side) {r : List ℕ} where
-  pub side-zero : side.zero ≡ true → r ≡ table (λ l. 0) 0 (lanes_in f) → r ≡ side_lanes f s side
-  side-zero t er =
-      er
-      ∙ table_same _ _ (lanes_in f)
-      (λ l hl. sym (nought (width f) (side_byte s side) (λ i. pick_true 0 (loaded_for s side i) t) (width f * lane_used (lanes_in f) side.lane l)))
-
-  -- the lanes by the bytes and the lane used, one in place of the other
-  as-used : (used : ℕ → ℕ) → side.zero ≡ false → ((l : ℕ) → used l ≡ lane_used (lanes_in f) side.lane l)
-      → r ≡ table (λ l. number (width f) (loaded_for s side) (width f * used l)) 0 (lanes_in f) → r ≡ side_lanes f s side
-  as-used used z eu er =
-      er ∙ (λ i. table (λ l. number (width f) (λ k. sym (pick_false 0 (loaded_for s side k) z) i) (width f * eu l i)) 0 (lanes_in f))
-
-  pub side-own : side.zero ≡ false → own ≤ side.lane → r ≡ words_of f (loaded_for s side) → r ≡ side_lanes f s side
-  side-own z h = as-used (λ l. l) z (λ l. sym (pick_true l (side.lane % lanes_in f) (le-leb own side.lane h)))
-
-  pub side-one : side.zero ≡ false → side.lane < own → (words : List ℕ) → words ≡ words_of f (loaded_for s side)
-      → r ≡ table (λ l. get_or words (side.lane % lanes_in f) 0) 0 (lanes_in f) → r ≡ side_lanes f s side
-  side-one z h words ew er =
-      as-used (λ l. lane) z (λ l. sym (pick_false l lane (lt-leb own side.lane h))) (er ∙ (λ i. table (λ l. chosen i) 0 (lanes_in f)))
+  -- one number for all lanes
+  pub side-one : {A : Type 0} (p : A → ℕ) (words : List A) (x d : A) (n lane : ℕ) → n ≡ lanes_in f → length words ≡ n → side.lane ≡ Some lane
+      → map p words ≡ words_of f (side_byte s side) → x ≡ get_or words (lane % n) d → map p (replicate n x) ≡ side_lanes f s side
+  side-one p words x d n lane en size e ew ex =
+      map-replicate p n x
+      ∙ same-all n (p x)
+      ∙ (λ i. table (λ l. chosen i) 0 (en i))
+      ∙ (λ i. table (λ l. number (width f) (side_byte s side) (width f * lane_used (lanes_in f) (sym e i) l)) 0 (lanes_in f))
     where
-      lane : ℕ
-      lane = side.lane % lanes_in f
+      inside : lane % n < n
+      inside = mod-lt lane (omega (arith, en, some_lanes f))
 
-      chosen : get_or words (side.lane % lanes_in f) 0 ≡ number (width f) (loaded_for s side) (width f * (side.lane % lanes_in f))
+      chosen : p x ≡ number (width f) (side_byte s side) (width f * (lane % lanes_in f))
       chosen =
-          ap (λ (x : List ℕ). get_or x lane 0) ew
-          ∙ at 0 (λ l. number (width f) (loaded_for s side) (width f * l)) (lanes_in f) lane (mod-lt side.lane (some_lanes f))
+          ap p ex
+          ∙ sym (get_or-map p words (lane % n) d 0 (omega (arith, inside, size)))
+          ∙ ap (λ (v : List ℕ). get_or v (lane % n) 0) ew
+          ∙ at 0 (λ l. number (width f) (side_byte s side) (width f * l)) (lanes_in f) (lane % n) (omega (arith, inside, en))
+          ∙ (λ i. number (width f) (side_byte s side) (width f * (lane % en i)))
+
+-- bytes from an offset that is read unless an override forces 0
+pub overridden : (xy : List ℕ) (base : ℕ) (zero : Bool) (from i : ℕ) → byte_from xy base (cond zero None (Some from)) i ≡ cond zero 0 (loaded xy base from i)
+overridden xy base true from i = refl
+overridden xy base false from i = refl
 
 -- X and Y lie before byte 1,024 of the state
 in_xy : (s : List ℕ) (side : Side) (i : ℕ) → side_byte s side i ≡ side_byte (take 1024 s) side i
-in_xy s side i =
-    let base : ℕ = cond side.y y_base x_base in
-    let low : base ≤ 512 = either (λ n. n ≤ 512) side.y (omega arith) (omega arith) in
-    ap (cond side.zero 0) (sym (get_or-take 1024 s (base + (side.from + i) % 512) 0 (omega (arith, low))))
+in_xy s side i = by side.from
+  where
+    base : ℕ
+    base = cond side.y y_base x_base
+
+    by : (o : Option ℕ) → byte_from s base o i ≡ byte_from (take 1024 s) base o i
+    by None = refl
+    by (Some from) =
+        let low : base ≤ 512 = either (λ n. n ≤ 512) side.y (omega arith) (omega arith) in
+        sym (get_or-take 1024 s (base + (from + i) % 512) 0 (omega (arith, low)))
 
 -- lane l of a side
 pub side-at : (f : Format) (s : List ℕ) (side : Side) (lanes : List ℕ) → lanes ≡ side_lanes f s side → (l : ℕ) → l < lanes_in f
@@ -119,7 +110,7 @@ module _ (gen op : ℕ) where
   unfolding Vecfp.x_index
   x-used m l = by (Vecint.broadcasts gen op 6 6)
     where
-      by : (b : Bool) → lane_used m (cond b 0 own) l ≡ cond b 0 l
+      by : (b : Bool) → lane_used m (cond b (Some 0) None) l ≡ cond b 0 l
       by true = zero-mod m
       by false = refl
 
@@ -131,28 +122,29 @@ module _ (gen op : ℕ) where
       cond (Vecint.broadcasts gen op 7 7) 0
       (cond (not (Vecint.several gen op) && eqb (Vecint.enable_mode op) 1) (Vecfp.enable_value op % lanes_in (sym e i)) l))
     where
-      by : (a b : Bool) → lane_used (lanes_in f) (cond a 0 (cond b (Vecfp.enable_value op) own)) l ≡ cond a 0 (cond b (Vecfp.enable_value op % lanes_in f) l)
+      by : (a b : Bool)
+          → lane_used (lanes_in f) (cond a (Some 0) (cond b (Some (Vecfp.enable_value op)) None)) l ≡ cond a 0 (cond b (Vecfp.enable_value op % lanes_in f) l)
       by true b = zero-mod (lanes_in f)
-      by false true = pick_false l _ (lt-leb own (Vecfp.enable_value op) (omega (arith, bits-lt op 32 36)))
+      by false true = refl
       by false false = refl
 
 -- Y's, by the branches of the code
 module _ (gen op : ℕ) (other : Vecint.broadcasts gen op 7 7 ≡ false) where
-  abbrev unfixed : ℕ → ℕ
-  unfixed n = cond (not (Vecint.several gen op) && eqb (Vecint.enable_mode op) 1) n own
+  abbrev unfixed : ℕ → Option ℕ
+  unfixed n = cond (not (Vecint.several gen op) && eqb (Vecint.enable_mode op) 1) (Some n) None
 
-  of-y : (n : ℕ) → n ≡ unfixed (Vecfp.enable_value op) → n ≡ y_lane gen op
+  of-y : (n : Option ℕ) → n ≡ unfixed (Vecfp.enable_value op) → n ≡ y_lane gen op
   of-y n e = e ∙ sym (pick_false _ _ other)
 
-  pub y-several : Vecint.several gen op ≡ true → own ≡ y_lane gen op
-  y-several t = of-y own (sym (pick_false _ _ (ap (λ (b : Bool). not b && eqb (Vecint.enable_mode op) 1) t)))
+  pub y-several : Vecint.several gen op ≡ true → None ≡ y_lane gen op
+  y-several t = of-y None (sym (pick_false _ _ (ap (λ (b : Bool). not b && eqb (Vecint.enable_mode op) 1) t)))
 
   module _ (one : Vecint.several gen op ≡ false) (mode : ℕ) (em : mode ≡ Vecint.enable_mode op) where
     by-enable : {b : Bool} → eqb (Vecint.enable_mode op) 1 ≡ b → not (Vecint.several gen op) && eqb (Vecint.enable_mode op) 1 ≡ b
     by-enable e = ap (λ (b : Bool). not b && eqb (Vecint.enable_mode op) 1) one ∙ e
 
-    pub y-fixed : mode ≡ 1 → (n : ℕ) → n ≡ Vecfp.enable_value op → n ≡ y_lane gen op
-    y-fixed e n en = of-y n (en ∙ sym (pick_true _ _ (by-enable (eq-eqb (Vecint.enable_mode op) 1 (sym em ∙ e)))))
+    pub y-fixed : mode ≡ 1 → (n : ℕ) → n ≡ Vecfp.enable_value op → Some n ≡ y_lane gen op
+    y-fixed e n en = of-y (Some n) (ap Some en ∙ sym (pick_true _ _ (by-enable (eq-eqb (Vecint.enable_mode op) 1 (sym em ∙ e)))))
 
-    pub y-own : (mode ≡ 1 → ⊥) → own ≡ y_lane gen op
-    y-own n = of-y own (sym (pick_false _ _ (by-enable (ne_eqb (Vecint.enable_mode op) 1 (λ e. n (em ∙ e))))))
+    pub y-own : (mode ≡ 1 → ⊥) → None ≡ y_lane gen op
+    y-own n = of-y None (sym (pick_false _ _ (by-enable (ne_eqb (Vecint.enable_mode op) 1 (λ e. n (em ∙ e))))))

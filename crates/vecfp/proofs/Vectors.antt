@@ -13,7 +13,7 @@ use borrow.Author.Tests.{eq-eqb}
 use Rattle.number.specs.Bytes.{byte_at, number, table}
 use Rattle.number.proofs.Bytes.{table_same}
 use Rattle.number.proofs.Tests.{pick_true}
-use Rattle.isa.specs.State.{start}
+use Rattle.isa.specs.State.{x_base, y_base, start}
 use Rattle.isa.specs.Effect.{applied}
 use Rattle.isa.specs.Vecint as Vecint
 use Rattle.isa.specs.Vecfp as Vecfp
@@ -23,8 +23,8 @@ use Rattle.state.specs.Rows.{one_row}
 use Rattle.state.proofs.Holds.{Bytes}
 use Rattle.state.proofs.Numbers.{row_same, row_made}
 use Rattle.vecfp.specs.declared.Side.{Side}
-use Rattle.vecfp.specs.Vectors.{row_of, x_side, y_side, lane_used, lanes_in, side_byte, side_lanes, result_lanes, vector_mask, vector_effect}
-use Rattle.vecfp.proofs.Sides.{fits, at, side-at, x-used, y-used}
+use Rattle.vecfp.specs.Vectors.{Fills, row_of, x_side, y_side, lane_used, lanes_in, side_byte, side_lanes, result_lanes, vector_mask, vector_effect}
+use Rattle.vecfp.proofs.Sides.{fits, at, side-at, overridden, x-used, y-used}
 
 -- the row, in Z
 pub row-in_z : (gen op v : ℕ) → v < 64 / Vecint.stride gen op → row_of gen op v < 64
@@ -46,12 +46,18 @@ module _ (f : Format) (gen op v : ℕ) (s : List ℕ) (ef : Vecfp.format_of op �
     x-lane e =
         side-lane (Vecfp.x_index gen op l) (ap (λ (x : Side). lane_used (lanes_in f) x.lane l) e ∙ x-used gen op (lanes_in f) l)
         ∙ ap (λ (x : Side). number (width (Vecfp.format_of op)) (side_byte xy x) (width (Vecfp.format_of op) * Vecfp.x_index gen op l)) e
+        ∙ (λ i.
+        number (width (Vecfp.format_of op)) (λ k. overridden xy x_base (Vecfp.overrides gen op 4 4) (Vecfp.x_offset gen op v) k i)
+        (width (Vecfp.format_of op) * Vecfp.x_index gen op l))
 
     y-lane : side ≡ y_side gen op v → get_or lanes l 0 ≡ Vecfp.y_of gen op xy v l
     unfolding Vecfp.y_of Vecfp.y_bytes
     y-lane e =
         side-lane (Vecfp.y_index gen op l) (ap (λ (x : Side). lane_used (lanes_in f) x.lane l) e ∙ y-used gen op f ef l)
         ∙ ap (λ (x : Side). number (width (Vecfp.format_of op)) (side_byte xy x) (width (Vecfp.format_of op) * Vecfp.y_index gen op l)) e
+        ∙ (λ i.
+        number (width (Vecfp.format_of op)) (λ k. overridden xy y_base (Vecfp.overrides gen op 5 5) (Vecfp.y_offset gen op v) k i)
+        (width (Vecfp.format_of op) * Vecfp.y_index gen op l))
 
   -- what the code has of a vector: its sides, their lanes, and what was made of them and of the row's
   pub record Made (sx sy : Side) (x y z out : List ℕ) : Type 0 where
@@ -76,16 +82,19 @@ module _ (f : Format) (gen op v : ℕ) (s : List ℕ) (ef : Vecfp.format_of op �
   module _ (size : length s ≡ 5120) (small : Bytes s) (hv : v < 64 / Vecint.stride gen op) {on : List Bool} (eo : on ≡ vector_mask f gen op) where
     pub vector-meant : {sx sy : Side} {x y z out t : List ℕ} → Made sx sy x y z out
         → {row : ℕ} → row ≡ v % 4 * Vecint.stride gen op + Vecint.z_row op % Vecint.stride gen op
-        → z ≡ table (λ l. number (width f) (byte_at s) (start (width f) (row % 64) l)) 0 (lanes_in f)
-        → t ≡ cond (eqb (length s) 5120) (applied (one_row (width f) row (λ l. get_or on l false) (λ l z. get_or out l 0)) s) s
+        → {b n : ℕ} → Fills f b n
+        → z ≡ table (λ l. number b (byte_at s) (start b (row % 64) l)) 0 n
+        → t ≡ cond (eqb (length s) 5120) (applied (one_row b row (λ l. get_or on l false) (λ l z. get_or out l 0)) s) s
         → t ≡ applied (vector_effect gen op v s) s
-    vector-meant {z = z} {out = out} made {row} er ez et =
+    vector-meant {z = z} {out = out} made {row} er fills ez et =
         et
+        ∙ (λ i. cond (eqb (length s) 5120) (applied (one_row (fills.0 i) row (λ l. get_or on l false) (λ l z. get_or out l 0)) s) s)
         ∙ pick_true _ _ (eq-eqb (length s) 5120 size)
         ∙ row_same (width f) (lanes_in f) (fits f) row s size small (λ l. get_or on l false) (Vecfp.enabled gen op) (λ l z. get_or out l 0)
         (λ l z. get_or out l 0)
         enabled (λ l h. refl)
-        ∙ row_made (width f) (lanes_in f) (fits f) row s size small (Vecfp.enabled gen op) (Vecfp.result gen op xy v) z out inside ez (results-meant made)
+        ∙ row_made (width f) (lanes_in f) (fits f) row s size small (Vecfp.enabled gen op) (Vecfp.result gen op xy v) z out inside
+        (ez ∙ (λ i. table (λ l. number (fills.0 i) (byte_at s) (start (fills.0 i) (row % 64) l)) 0 (fills.1 i))) (results-meant made)
         ∙ (λ i. applied (one_row (width (sym ef i)) (place i) (Vecfp.enabled gen op) (Vecfp.result gen op xy v)) s)
       where
         place : row ≡ row_of gen op v

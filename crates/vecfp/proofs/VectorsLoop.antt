@@ -18,7 +18,7 @@ use Rattle.isa.specs.Vecfp.{width}
 use Rattle.operand.proofs.Widths.{stride-cases}
 use Rattle.operand.proofs.Rows.{by-spacing, given_below, next, row-vector, row_within}
 use Rattle.state.specs.Rows.{among, one_row}
-use Rattle.state.proofs.Holds.{Bytes, lane_after, Holds}
+use Rattle.state.proofs.Holds.{Bytes, lane_after, Holds, bytes-applied}
 use Rattle.state.proofs.RunLoop.{among-yes}
 use Rattle.state.proofs.RowsLoop.{Below, rows_start, rows_more, rows_end}
 use Rattle.vecfp.specs.Vectors.{row_of, lanes_in, vector_effect}
@@ -100,8 +100,12 @@ module _ {gen op : ℕ} {s₀ : List ℕ} {vectors : ℕ} where
   done_none size small = record { most = omega arith; held = vectors-none gen op s₀ size; bytes = small }
 
   module _ {v : ℕ} {t : List ℕ} (before : Done gen op s₀ vectors v t) where
-    pub done_more : {u : List ℕ} → v < vectors → u ≡ applied (vector_effect gen op v t) t → Bytes u → Done gen op s₀ vectors (v + 1) u
-    done_more {u} h eu small = record { most = omega arith; held = vectors-more gen op s₀ v t u before.held eu; bytes = small }
+    pub done_more : {u : List ℕ} → v < vectors → u ≡ applied (vector_effect gen op v t) t → Done gen op s₀ vectors (v + 1) u
+    done_more {u} h eu = record {
+      most = omega arith;
+      held = vectors-more gen op s₀ v t u before.held eu;
+      bytes = subst Bytes (sym eu) (bytes-applied (vector_effect gen op v t) t before.bytes);
+    }
 
     pub done_all : vectors ≤ v → vectors ≡ 64 / Vecint.stride gen op → length s₀ ≡ 5120 → Bytes s₀ → t ≡ applied (Vecfp.vecfp gen op) s₀
     done_all h e size small = vectors-all gen op s₀ v t (subst (λ (n : ℕ). n ≤ v) e h) size small before.bytes before.held

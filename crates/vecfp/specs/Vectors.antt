@@ -1,6 +1,6 @@
 -- A step as its vectors, and a vector as lists of its lanes' patterns.
 -- Assumes nothing.
-use Rattle.std.specs.Prelude.{Bool, true, false, cond, not, ◌&&◌, List, ℕ, ◌+◌, ◌*◌, ◌%◌, leb, eqb, take, get_or}
+use Rattle.std.specs.Prelude.{◌≡◌, Bool, true, false, cond, not, ◌&&◌, List, Option, Some, None, ℕ, ◌+◌, ◌*◌, ◌%◌, eqb, take, get_or}
 use Rattle.std.specs.Float.{Format}
 use Rattle.number.specs.Bytes.{number, table}
 use Rattle.isa.specs.State.{x_base, y_base, z_base, lanes_of, loaded}
@@ -21,37 +21,43 @@ vector_effect gen op v s =
 
 -- ---- the lane of a side that every lane uses
 
--- no lane has this number: each lane uses its own
-abbrev pub own : ℕ
-own = 64
+abbrev pub x_lane : ℕ → ℕ → Option ℕ
+x_lane gen op = cond (Vecint.broadcasts gen op 6 6) (Some 0) None
 
-abbrev pub x_lane : ℕ → ℕ → ℕ
-x_lane gen op = cond (Vecint.broadcasts gen op 6 6) 0 own
-
-abbrev pub y_lane : ℕ → ℕ → ℕ
+abbrev pub y_lane : ℕ → ℕ → Option ℕ
 y_lane gen op =
-    cond (Vecint.broadcasts gen op 7 7) 0
-    (cond (not (Vecint.several gen op) && eqb (Vecint.enable_mode op) 1) (Vecfp.enable_value op) own)
+    cond (Vecint.broadcasts gen op 7 7) (Some 0)
+    (cond (not (Vecint.several gen op) && eqb (Vecint.enable_mode op) 1) (Some (Vecfp.enable_value op)) None)
 
--- the lane, of m, that lane l uses
-abbrev pub lane_used : ℕ → ℕ → ℕ → ℕ
-lane_used m lane l = cond (leb own lane) l (lane % m)
+-- the lane, of m, that lane l uses: its own where there is none for all
+abbrev pub lane_used : ℕ → Option ℕ → ℕ → ℕ
+lane_used m None l = l
+lane_used m (Some lane) l = lane % m
 
 -- ---- the sides of vector v, and the bytes of a side on X and Y
 
 abbrev pub x_side : ℕ → ℕ → ℕ → Side
-x_side gen op v = record { y = false; zero = Vecfp.overrides gen op 4 4; from = Vecfp.x_offset gen op v; lane = x_lane gen op }
+x_side gen op v = record { y = false; from = cond (Vecfp.overrides gen op 4 4) None (Some (Vecfp.x_offset gen op v)); lane = x_lane gen op }
 
 abbrev pub y_side : ℕ → ℕ → ℕ → Side
-y_side gen op v = record { y = true; zero = Vecfp.overrides gen op 5 5; from = Vecfp.y_offset gen op v; lane = y_lane gen op }
+y_side gen op v = record { y = true; from = cond (Vecfp.overrides gen op 5 5) None (Some (Vecfp.y_offset gen op v)); lane = y_lane gen op }
+
+-- the bytes from an offset on, which are 0 where there is none
+abbrev pub byte_from : List ℕ → ℕ → Option ℕ → ℕ → ℕ
+byte_from xy base None i = 0
+byte_from xy base (Some from) i = loaded xy base from i
 
 abbrev pub side_byte : List ℕ → Side → ℕ → ℕ
-side_byte xy side i = cond side.zero 0 (loaded xy (cond side.y y_base x_base) side.from i)
+side_byte xy side i = byte_from xy (cond side.y y_base x_base) side.from i
 
 -- ---- lists of patterns
 
 abbrev pub lanes_in : Format → ℕ
 lanes_in f = lanes_of (Vecfp.width f)
+
+-- n numbers of b bytes have the format's width, and fill a row
+abbrev pub Fills : Format → ℕ → ℕ → Type 0
+Fills f b n = (b ≡ Vecfp.width f) × (n ≡ lanes_in f)
 
 -- of 64 bytes, and of a side by the lane that each lane uses
 abbrev pub words_of : Format → (ℕ → ℕ) → List ℕ

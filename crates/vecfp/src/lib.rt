@@ -1,52 +1,52 @@
 // vecfp on a lent state.
 #![tactic(auto)]
 
-ghost use Rattle.std.specs.Prelude.{◌≡◌, cond, ◌+◌, ◌*◌, ◌/◌, ◌<◌, ◌≤◌, eqb, length};
-ghost use Rattle.std.specs.Float.{binary32, binary64};
-ghost use Rattle.isa.specs.State.{x_base, y_base, register_bytes, loaded};
+ghost use Rattle.std.specs.Prelude.{◌≡◌, map, cond, Some, None, ◌+◌, ◌*◌, ◌/◌, ◌<◌, ◌≤◌, eqb, length};
+ghost use Rattle.number.specs.Bytes.{table};
+ghost use Rattle.isa.specs.State.{register_bytes, loaded};
 ghost use Rattle.isa.specs.Operand.{bit};
 ghost use Rattle.isa.specs.Effect.{applied, count, bytes_on};
 ghost use Rattle.isa.specs.Vecint as Vecint;
 ghost use Rattle.isa.specs.Vecfp as Vecfp;
 ghost use Rattle.masks.specs.Mask.{mask_of};
-ghost use Rattle.vecfp.specs.Vectors.{x_lane, y_lane, x_side, y_side, words_of, side_lanes, alu_lanes, result_lanes, vector_mask, vector_effect};
+ghost use Rattle.vecfp.specs.Vectors.{x_lane, y_lane, x_side, y_side, side_byte, side_lanes, alu_lanes, result_lanes};
+ghost use Rattle.vecfp.specs.Vectors.{Fills, vector_mask, vector_effect};
+
+use float::Pattern;
+use lanes::{Choice, Product, Sum};
 
 // ---- the sides of a vector
 
-// Where the 64 bytes of Y, or of X, begin, whether they are read as 0, and the lane that every lane uses.
+// Where the 64 bytes of Y, or of X, begin, if they are not read as 0, and the lane that every lane uses, if it does not use its own.
 #[derive(Clone, Copy)]
 pub struct Side {
     pub y: bool,
-    pub zero: bool,
-    pub from: u64,
-    pub lane: usize,
+    pub from: Option<u64>,
+    pub lane: Option<usize>,
 }
 
-// No lane has this number: each lane uses its own.
-const OWN: usize = 64;
-
-fn x_lane(generation: u64, op: u64) -> usize
+fn x_lane(generation: u64, op: u64) -> Option<usize>
     ensures { result ≡ x_lane generation op }
 {
     if operand::broadcasts(generation, op, 6, 6) {
-        return 0;
+        return Some(0);
     }
-    OWN
+    None
 }
 
-fn y_lane(generation: u64, op: u64) -> usize
+fn y_lane(generation: u64, op: u64) -> Option<usize>
     ensures { result ≡ y_lane generation op }
 {
     if operand::broadcasts(generation, op, 7, 7) {
-        return 0;
+        return Some(0);
     }
     if operand::several(generation, op) {
-        return OWN;
+        return None;
     }
     if operand::field(op, 38, 40) == 1 {
-        return operand::vecfp_value(op) as usize;
+        return Some(operand::vecfp_value(op) as usize);
     }
-    OWN
+    None
 }
 
 // From one vector to the next, of four at most.
@@ -60,15 +60,21 @@ fn offset(first: u64, same: bool, v: usize) -> u64
     first + 64 * (v as u64)
 }
 
+fn from_unless(zero: bool, offset: u64) -> Option<u64>
+    ensures { result ≡ cond zero None (Some offset) }
+{
+    if zero { None } else { Some(offset) }
+}
+
 fn x_side(generation: u64, op: u64, v: usize) -> Side
     requires { v < 4 }
     ensures { result ≡ x_side generation op v }
 {
     let same = operand::broadcasts(generation, op, 2, 6);
+    let zero = operand::vecfp_overrides(generation, op, 4, 4);
     Side {
         y: false,
-        zero: operand::vecfp_overrides(generation, op, 4, 4),
-        from: offset(operand::field(op, 10, 18), same, v),
+        from: from_unless(zero, offset(operand::field(op, 10, 18), same, v)),
         lane: x_lane(generation, op),
     }
 }
@@ -78,177 +84,118 @@ fn y_side(generation: u64, op: u64, v: usize) -> Side
     ensures { result ≡ y_side generation op v }
 {
     let same = operand::broadcasts(generation, op, 3, 7);
+    let zero = operand::vecfp_overrides(generation, op, 5, 5);
     Side {
         y: true,
-        zero: operand::vecfp_overrides(generation, op, 5, 5),
-        from: offset(operand::field(op, 0, 8), same, v),
+        from: from_unless(zero, offset(operand::field(op, 0, 8), same, v)),
         lane: y_lane(generation, op),
     }
 }
 
-// ---- singles
-
-// The lanes of a load.
-fn load32(state: &[u8], y: bool, from: u64) -> [u32; 16]
-    ensures { result ≡ words_of binary32 (loaded state.now (cond y y_base x_base) from) }
+fn side_bytes(state: &[u8], side: Side) -> [u8; 64]
+    ensures { result ≡ table (side_byte state.now side) 0 64 }
 {
-    let bytes = state::load(state, y, from);
-    state::words32(&bytes)
+    match side.from {
+        None => [0; 64],
+        Some(from) => state::load(state, side.y, from),
+    }
 }
 
+// ---- lanes of N numbers, which fill a row
+
 // What the lanes use of a side.
-fn side32(state: &[u8], side: Side) -> [u32; 16]
-    ensures { result ≡ side_lanes binary32 state.now side }
+fn side_lanes<T: Pattern, const N: usize>(state: &[u8], side: Side) -> [T; N]
+    requires { Fills T.format T.BYTES N }
+    ensures { map T.bits result ≡ side_lanes T.format state.now side }
 {
-    if side.zero {
-        return [0u32; 16];
+    let words: [T; N] = state::words(&side_bytes(state, side));
+    match side.lane {
+        None => words,
+        Some(lane) => [words[lane % N]; N],
     }
-    if OWN <= side.lane {
-        return load32(state, side.y, side.from);
-    }
-    let words = load32(state, side.y, side.from);
-    [words[side.lane % 16]; 16]
 }
 
 // An operation of all lanes, by the mode.
-fn by_mode32(mode: u64, x: &[u32; 16], y: &[u32; 16], z: &[u32; 16]) -> [u32; 16]
-    ensures { result ≡ alu_lanes binary32 mode x.now y.now z.now }
+fn by_mode<T: Pattern, const N: usize>(mode: u64, x: &[T; N], y: &[T; N], z: &[T; N]) -> [T; N]
+    requires { Fills T.format T.BYTES N }
+    ensures { map T.bits result ≡ alu_lanes T.format mode (map T.bits x.now) (map T.bits y.now) (map T.bits z.now) }
 {
-    if mode == 4 {
-        return lanes::choices32(x, y);
+    match mode {
+        4 => lanes::each::<Choice, T, N>(x, y),
+        10 => lanes::each::<Product, T, N>(x, y),
+        11 => lanes::each::<Sum, T, N>(z, x),
+        _ => lanes::each::<Sum, T, N>(z, y),
     }
-    if mode == 10 {
-        return lanes::products32(x, y);
-    }
-    if mode == 11 {
-        return lanes::sums32(z, x);
-    }
-    lanes::sums32(z, y)
 }
 
 // What the lanes receive, which is 0 where an override forces it.
-fn results32(generation: u64, op: u64, x: &[u32; 16], y: &[u32; 16], z: &[u32; 16]) -> [u32; 16]
-    ensures { result ≡ result_lanes binary32 generation op x.now y.now z.now }
+fn results<T: Pattern, const N: usize>(
+    generation: u64,
+    op: u64,
+    x: &[T; N],
+    y: &[T; N],
+    z: &[T; N],
+    zeros: &[T; N],
+) -> [T; N]
+    requires { Fills T.format T.BYTES N × (map T.bits zeros.now ≡ table (λ l. 0) 0 N) }
+    ensures { map T.bits result ≡ result_lanes T.format generation op (map T.bits x.now) (map T.bits y.now) (map T.bits z.now) }
 {
     if operand::vecfp_overrides(generation, op, 3, 1) {
-        return [0u32; 16];
+        return *zeros;
     }
-    by_mode32(operand::alu_mode(op), x, y, z)
+    by_mode(operand::alu_mode(op), x, y, z)
 }
 
 // Vector v.
-fn vector32(state: &mut [u8], generation: u64, op: u64, v: usize, on: &[bool; 16])
-    requires { (length state.old ≡ register_bytes) × (v < 64 / Vecint.stride generation op)
-        × (Vecfp.format_of op ≡ binary32) × (on.now ≡ vector_mask binary32 generation op) }
+fn vector<T: Pattern, const N: usize>(
+    state: &mut [u8; 5120],
+    generation: u64,
+    op: u64,
+    v: usize,
+    on: &[bool; N],
+    zeros: &[T; N],
+)
+    requires { Fills T.format T.BYTES N × (map T.bits zeros.now ≡ table (λ l. 0) 0 N)
+        × (v < 64 / Vecint.stride generation op) × (Vecfp.format_of op ≡ T.format) × (on.now ≡ vector_mask T.format generation op) }
     ensures { state.new ≡ applied (vector_effect generation op v state.old) state.old }
 {
     let row = operand::vecfp_row(generation, op, v);
-    let x = side32(state, x_side(generation, op, v));
-    let y = side32(state, y_side(generation, op, v));
-    let z = state::row32(state, row);
-    let out = results32(generation, op, &x, &y, &z);
-    state::put_row32(state, row, &out, on);
+    let x: [T; N] = side_lanes(state, x_side(generation, op, v));
+    let y: [T; N] = side_lanes(state, y_side(generation, op, v));
+    let z: [T; N] = state::row(state, row);
+    let out = results(generation, op, &x, &y, &z, zeros);
+    state::put_row(state, row, &out, on);
 }
 
 // All vectors.
-fn vectors32(state: &mut [u8], generation: u64, op: u64, on: &[bool; 16])
-    requires { (length state.old ≡ register_bytes) × (Vecfp.format_of op ≡ binary32) × (on.now ≡ vector_mask binary32 generation op) }
+fn all_vectors<T: Pattern, const N: usize>(
+    state: &mut [u8; 5120],
+    generation: u64,
+    op: u64,
+    on: &[bool; N],
+    zeros: &[T; N],
+)
+    requires { Fills T.format T.BYTES N × (map T.bits zeros.now ≡ table (λ l. 0) 0 N)
+        × (Vecfp.format_of op ≡ T.format) × (on.now ≡ vector_mask T.format generation op) }
     ensures { state.new ≡ applied (Vecfp.vecfp generation op) state.old }
 {
     let vectors = operand::vectors(generation, op);
     for v in 0..vectors {
-        vector32(state, generation, op, v, on);
-    }
-}
-
-// ---- doubles
-
-// The lanes of a load.
-fn load64(state: &[u8], y: bool, from: u64) -> [u64; 8]
-    ensures { result ≡ words_of binary64 (loaded state.now (cond y y_base x_base) from) }
-{
-    let bytes = state::load(state, y, from);
-    state::words64(&bytes)
-}
-
-// What the lanes use of a side.
-fn side64(state: &[u8], side: Side) -> [u64; 8]
-    ensures { result ≡ side_lanes binary64 state.now side }
-{
-    if side.zero {
-        return [0u64; 8];
-    }
-    if OWN <= side.lane {
-        return load64(state, side.y, side.from);
-    }
-    let words = load64(state, side.y, side.from);
-    [words[side.lane % 8]; 8]
-}
-
-// An operation of all lanes, by the mode.
-fn by_mode64(mode: u64, x: &[u64; 8], y: &[u64; 8], z: &[u64; 8]) -> [u64; 8]
-    ensures { result ≡ alu_lanes binary64 mode x.now y.now z.now }
-{
-    if mode == 4 {
-        return lanes::choices64(x, y);
-    }
-    if mode == 10 {
-        return lanes::products64(x, y);
-    }
-    if mode == 11 {
-        return lanes::sums64(z, x);
-    }
-    lanes::sums64(z, y)
-}
-
-// What the lanes receive, which is 0 where an override forces it.
-fn results64(generation: u64, op: u64, x: &[u64; 8], y: &[u64; 8], z: &[u64; 8]) -> [u64; 8]
-    ensures { result ≡ result_lanes binary64 generation op x.now y.now z.now }
-{
-    if operand::vecfp_overrides(generation, op, 3, 1) {
-        return [0u64; 8];
-    }
-    by_mode64(operand::alu_mode(op), x, y, z)
-}
-
-// Vector v.
-fn vector64(state: &mut [u8], generation: u64, op: u64, v: usize, on: &[bool; 8])
-    requires { (length state.old ≡ register_bytes) × (v < 64 / Vecint.stride generation op)
-        × (Vecfp.format_of op ≡ binary64) × (on.now ≡ vector_mask binary64 generation op) }
-    ensures { state.new ≡ applied (vector_effect generation op v state.old) state.old }
-{
-    let row = operand::vecfp_row(generation, op, v);
-    let x = side64(state, x_side(generation, op, v));
-    let y = side64(state, y_side(generation, op, v));
-    let z = state::row64(state, row);
-    let out = results64(generation, op, &x, &y, &z);
-    state::put_row64(state, row, &out, on);
-}
-
-// All vectors.
-fn vectors64(state: &mut [u8], generation: u64, op: u64, on: &[bool; 8])
-    requires { (length state.old ≡ register_bytes) × (Vecfp.format_of op ≡ binary64) × (on.now ≡ vector_mask binary64 generation op) }
-    ensures { state.new ≡ applied (Vecfp.vecfp generation op) state.old }
-{
-    let vectors = operand::vectors(generation, op);
-    for v in 0..vectors {
-        vector64(state, generation, op, v, on);
+        vector(state, generation, op, v, on, zeros);
     }
 }
 
 // ---- the step
 
-fn each_vector(state: &mut [u8], generation: u64, op: u64, mask: u64)
-    requires { (length state.old ≡ register_bytes) × (mask ≡ mask_of (Vecfp.enabled generation op) 64) }
+fn each_vector(state: &mut [u8; 5120], generation: u64, op: u64, mask: u64)
+    requires { mask ≡ mask_of (Vecfp.enabled generation op) 64 }
     ensures { state.new ≡ applied (Vecfp.vecfp generation op) state.old }
 {
     if operand::single(op) {
-        let on = masks::lanes16(mask);
-        vectors32(state, generation, op, &on);
+        all_vectors(state, generation, op, &masks::lanes(mask), &[0u32; 16]);
         return;
     }
-    let on = masks::lanes8(mask);
-    vectors64(state, generation, op, &on);
+    all_vectors(state, generation, op, &masks::lanes(mask), &[0u64; 8]);
 }
 
 // The bytes of a vector's enabled lanes.
@@ -272,10 +219,10 @@ pub fn step(state: &mut [u8], generation: u64, op: u64) -> u64
         (applied (Vecfp.vecfp generation op) state.old) state.old)
         × (result ≡ cond (eqb (length state.old) register_bytes) (bytes_on (Vecfp.vecfp generation op)) 0) }
 {
-    if state.len() != 5120 {
+    let Some(registers) = state.as_mut_array() else {
         return 0;
-    }
+    };
     let mask = masks::vecfp_mask(generation, op);
-    each_vector(state, generation, op, mask);
+    each_vector(registers, generation, op, mask);
     bytes_enabled(generation, op, mask)
 }

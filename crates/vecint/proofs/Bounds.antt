@@ -13,15 +13,11 @@ pub fits : (wide : Bool) → z_lanes wide * z_bytes wide ≡ 64
 fits true = refl
 fits false = refl
 
--- lane l of the row that has place q of c
-pub place_in : (wide : Bool) (l q c : ℕ) → l < z_lanes wide → q < c → z_lanes wide * c ≤ 64 → l * c + q < 64
-place_in wide l q c hl hq h =
-    let place : l * c + q < z_lanes wide * c = digits_lt hl hq in
+-- lane l of n of the row that has place q of c
+pub place_in : (n l q c : ℕ) → l < n → q < c → n * c ≤ 64 → l * c + q < 64
+place_in n l q c hl hq h =
+    let place : l * c + q < n * c = digits_lt hl hq in
     omega arith
-
--- where a lane of a row lies
-pub lane-at : (row x : ℕ) → row < 64 → 1024 + row % 64 * 64 + x ≡ 1024 + (row * 64 + x)
-lane-at row x h = omega arith
 
 -- a vector has at most as many lanes as a mask has places
 pub few-lanes : (op : ℕ) → vector_lanes op ≤ 64

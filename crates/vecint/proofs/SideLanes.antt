@@ -1,7 +1,7 @@
 -- The lanes of X and Y that a vector uses, as the code reads them.
 -- Assumes nothing.
-use Rattle.std.proofs.Common.{◌≡◌, ℕ, zero, suc, ◌+◌, ◌*◌, ◌/◌, ◌%◌, ◌<◌, ◌≤◌, Bool, true, false, cond, ◌&&◌, ◌||◌, eqb, ◌⊎◌, List, get_or, take, ℤ}
-use Rattle.std.proofs.Common.{pos, sym, refl, ap, ◌∙◌, subst, inl, inr, mod-eq_of_lt, zero-add, arith, pow_pos}
+use Rattle.std.proofs.Common.{◌≡◌, ℕ, zero, suc, ◌+◌, ◌*◌, ◌/◌, ◌%◌, ◌<◌, ◌≤◌, Bool, true, false, cond, ◌&&◌, ◌||◌, eqb, ◌⊎◌, List, get_or, take}
+use Rattle.std.proofs.Common.{ℤ, Option, Some, None, pos, sym, refl, ap, ◌∙◌, subst, inl, inr, mod-eq_of_lt, zero-add, arith, pow_pos}
 use mathlib.Core.Bool as B
 use native.Mathlib.Nat.{zero-mod}
 use Rattle.number.specs.Bytes.{byte_at, number, table}
@@ -16,7 +16,7 @@ use Rattle.sides.specs.Sides.{lane_of, lane_bytes, index_of, term_of, side_by, k
 use Rattle.sides.specs.declared.SideForm.{SideForm}
 use Rattle.sides.proofs.Elements.{side-at, kept_at}
 use Rattle.loads.specs.Loads.{bytes_of}
-use Rattle.vecint.specs.Vectors.{vector_lanes, x_side_of, y_side_of, fixed_y, lane_y, HoldsTerms}
+use Rattle.vecint.specs.Vectors.{vector_lanes, x_side_of, y_side_of, fixed_x, fixed_y, HoldsTerms}
 use Rattle.vecint.specs.declared.Alu.{Alu}
 
 -- ---- a lane of the bytes loaded
@@ -71,30 +71,40 @@ y_sided : (op : ℕ) → Sided (Vecint.widths op).y (Vecint.widths op).x (Vecint
 y_sided = by-widths (λ w. Sided w.y w.x (Vecint.narrower w)) both-2 both-2 both-1 both-1 wider narrow
 
 -- the lane that the code uses
-abbrev lane-used : Bool → ℕ → ℕ → ℕ → ℕ → ℕ
-lane-used fixed lane b n k = cond fixed (lane % lanes_of b) (k / (b / n))
+abbrev lane-used : Option ℕ → ℕ → ℕ → ℕ → ℕ
+lane-used (Some lane) b n k = lane % lanes_of b
+lane-used None b n k = k / (b / n)
 
-used_inside : (b other n : ℕ) → Sided b other n → (fixed : Bool) (lane k : ℕ) → k < lanes_of n → b * lane-used fixed lane b n k + b ≤ 64
-used_inside b other n s true lane k h = s.any lane
-used_inside b other n s false lane k h = s.inside k h
+used_inside : (b other n : ℕ) → Sided b other n → (fixed : Option ℕ) (k : ℕ) → k < lanes_of n → b * lane-used fixed b n k + b ≤ 64
+used_inside b other n s (Some lane) k h = s.any lane
+used_inside b other n s None k h = s.inside k h
 
-side-lane : (b other n : ℕ) → Sided b other n → (sign skip fixed : Bool) (lane k : ℕ) (f : ℕ → ℕ) → k < lanes_of n
-    → lane_of sign (lane_bytes (eqb b 2)) (table (λ i. cond skip 0 (f i)) 0 64) (index_of (eqb b 2) fixed lane (eqb other 1) k)
-    ≡ cond skip (pos 0) (read sign b (number b f (b * lane-used fixed lane b n k)))
+side-lane : (b other n : ℕ) → Sided b other n → (sign skip : Bool) (fixed : Option ℕ) (k : ℕ) (f : ℕ → ℕ) → k < lanes_of n
+    → lane_of sign (lane_bytes (eqb b 2)) (table (λ i. cond skip 0 (f i)) 0 64) (index_of (eqb b 2) fixed (eqb other 1) k)
+    ≡ cond skip (pos 0) (read sign b (number b f (b * lane-used fixed b n k)))
 unfolding index_of
-side-lane b other n s sign skip fixed lane k f h =
-    (λ t. lane_of sign (s.bytes t) (table (λ i. cond skip 0 (f i)) 0 64) (cond fixed (lane % (64 / s.bytes t)) (s.index k t)))
-    ∙ lane-read sign b (lane-used fixed lane b n k) f (used_inside b other n s fixed lane k h) skip
+side-lane b other n s sign skip (Some lane) k f h =
+    (λ t. lane_of sign (s.bytes t) (table (λ i. cond skip 0 (f i)) 0 64) (lane % (64 / s.bytes t)))
+    ∙ lane-read sign b (lane-used (Some lane) b n k) f (used_inside b other n s (Some lane) k h) skip
+side-lane b other n s sign skip None k f h =
+    (λ t. lane_of sign (s.bytes t) (table (λ i. cond skip 0 (f i)) 0 64) (s.index k t))
+    ∙ lane-read sign b (lane-used None b n k) f (used_inside b other n s None k h) skip
 
 -- ---- X and Y
 
+-- the lane of X, by whether its lane 0 is broadcast
+by-broadcast : (all : Bool) (b n k : ℕ) → lane-used (cond all (Some 0) None) b n k ≡ cond all 0 (k / (b / n))
+by-broadcast true b n k = zero-mod (lanes_of b)
+by-broadcast false b n k = refl
+
 -- the lane of Y, by whether there are several vectors, broadcast mode 7 and enable mode 1
-by-several : (several seven one : Bool) (value lanes k : ℕ)
-    → cond (cond several seven one) (cond several 0 value % lanes) k
-    ≡ cond (several && (seven || seven)) 0 (cond (B.not several && one) (value % lanes) k)
-by-several true true one value lanes k = zero-mod lanes
-by-several true false one value lanes k = refl
-by-several false seven one value lanes k = refl
+by-several : (several seven one : Bool) (value b n k : ℕ)
+    → lane-used (cond several (cond seven (Some 0) None) (cond one (Some value) None)) b n k
+    ≡ cond (several && (seven || seven)) 0 (cond (B.not several && one) (value % lanes_of b) (k / (b / n)))
+by-several true true one value b n k = zero-mod (lanes_of b)
+by-several true false one value b n k = refl
+by-several false seven true value b n k = refl
+by-several false seven false value b n k = refl
 
 module _ (gen op : ℕ) (s : List ℕ) (v : ℕ) (skip : Bool) (not : Vecint.reduces op ≡ false) (k : ℕ) (hk : k < vector_lanes op) where
   in-side : k < lanes_of (Vecint.narrower (Vecint.widths op))
@@ -110,9 +120,9 @@ module _ (gen op : ℕ) (s : List ℕ) (v : ℕ) (skip : Bool) (not : Vecint.red
   pub x-lanes : get_or (side_by (x_side_of gen op) (bytes_of false gen op s v skip)) k (pos 0) ≡ cond skip (pos 0) (Vecint.x_of gen op (take 1024 s) v k)
   unfolding Vecint.x_of Vecint.x_index
   x-lanes =
-      side-at (eqb b 2) (bit op 63) (bytes_of false gen op s v skip) fx 0 (eqb (Vecint.widths op).y 1) k in_list
-      ∙ side-lane b (Vecint.widths op).y n (x_sided op) (bit op 63) skip fx 0 k f in-side
-      ∙ ap (λ (j : ℕ). cond skip (pos 0) (read (bit op 63) b (number b f (b * cond fx j (k / (b / n)))))) (zero-mod (lanes_of b))
+      side-at (eqb b 2) (bit op 63) (bytes_of false gen op s v skip) (fixed_x gen op) (eqb (Vecint.widths op).y 1) k in_list
+      ∙ side-lane b (Vecint.widths op).y n (x_sided op) (bit op 63) skip (fixed_x gen op) k f in-side
+      ∙ ap (λ (j : ℕ). cond skip (pos 0) (read (bit op 63) b (number b f (b * j)))) (by-broadcast (Vecint.broadcasts gen op 6 6) b n k)
     where
       b : ℕ
       b = (Vecint.widths op).x
@@ -123,14 +133,11 @@ module _ (gen op : ℕ) (s : List ℕ) (v : ℕ) (skip : Bool) (not : Vecint.red
       f : ℕ → ℕ
       f = Vecint.x_bytes gen op (take 1024 s) v
 
-      fx : Bool
-      fx = Vecint.broadcasts gen op 6 6
-
   pub y-lanes : get_or (side_by (y_side_of gen op) (bytes_of true gen op s v skip)) k (pos 0) ≡ cond skip (pos 0) (Vecint.y_of gen op (take 1024 s) v k)
   unfolding Vecint.y_of Vecint.y_index
   y-lanes =
-      side-at (eqb b 2) (bit op 26) (bytes_of true gen op s v skip) (fixed_y gen op) (lane_y gen op) (eqb (Vecint.widths op).x 1) k in_list
-      ∙ side-lane b (Vecint.widths op).x n (y_sided op) (bit op 26) skip (fixed_y gen op) (lane_y gen op) k f in-side
+      side-at (eqb b 2) (bit op 26) (bytes_of true gen op s v skip) (fixed_y gen op) (eqb (Vecint.widths op).x 1) k in_list
+      ∙ side-lane b (Vecint.widths op).x n (y_sided op) (bit op 26) skip (fixed_y gen op) k f in-side
       ∙ ap (λ (j : ℕ). cond skip (pos 0) (read (bit op 26) b (number b f (b * j)))) used
     where
       b : ℕ
@@ -142,11 +149,10 @@ module _ (gen op : ℕ) (s : List ℕ) (v : ℕ) (skip : Bool) (not : Vecint.red
       f : ℕ → ℕ
       f = Vecint.y_bytes gen op (take 1024 s) v
 
-      used : lane-used (fixed_y gen op) (lane_y gen op) b n k ≡ Vecint.y_index gen op k
+      used : lane-used (fixed_y gen op) b n k ≡ Vecint.y_index gen op k
       used =
           unfold Vecint.y_index Vecint.broadcasts in
-          by-several (Vecint.several gen op) (eqb (Vecint.broadcast_mode op) 7) (eqb (Vecint.enable_mode op) 1) (Vecint.enable_value op) (lanes_of b)
-          (k / (b / n))
+          by-several (Vecint.several gen op) (eqb (Vecint.broadcast_mode op) 7) (eqb (Vecint.enable_mode op) 1) (Vecint.enable_value op) b n k
 
 -- the terms, from the parts that the code has read
 pub terms_held : (gen op : ℕ) (s : List ℕ) (v : ℕ) (how : Alu) (ts : List ℤ) (xb yb : List ℕ) (x y : SideForm) (n sh : ℕ) → Vecint.reduces op ≡ false → v < 4

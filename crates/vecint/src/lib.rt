@@ -1,7 +1,8 @@
 // vecint on a lent state.
 #![tactic(auto)]
 
-ghost use Rattle.std.specs.Prelude.{◌≡◌, ◌+◌, ◌*◌, ◌/◌, ◌<◌, ◌≤◌, true, false, cond, ◌||◌, length, neg_ℤ, if◌then◌else◌, ◌==◌, nat_eq, slice_index_or};
+ghost use Rattle.std.specs.Prelude.{◌≡◌, refl, Bool, ◌+◌, ◌*◌, ◌/◌, ◌<◌, ◌≤◌, true, false, cond, ◌||◌, length, neg_ℤ};
+ghost use Rattle.std.specs.Prelude.{if◌then◌else◌, ◌==◌, nat_eq, slice_index_or};
 ghost use Rattle.number.specs.Bytes.{span};
 ghost use Rattle.number.specs.Integers.{signed, wrap, kept};
 ghost use Rattle.isa.specs.State.{register_bytes};
@@ -12,7 +13,9 @@ ghost use Rattle.masks.specs.Mask.{mask_of};
 ghost use Rattle.state.specs.Rows.{dealt};
 ghost use Rattle.vecint.specs.Accumulation.{z_bytes, z_lanes, summed, clamped_sum, accumulated, lane_stored, accumulate, row_of};
 ghost use Rattle.vecint.specs.Modes.{sums_in, y_alone, negates_in, alu_by};
-ghost use Rattle.vecint.specs.Vectors.{vector_lanes, x_side_of, y_side_of, fixed_y, lane_y, HoldsTerms, vecint_mask, vector_effect, reduce_by};
+ghost use Rattle.vecint.specs.Vectors.{vector_lanes, x_side_of, y_side_of, fixed_x, fixed_y, HoldsTerms, vecint_mask, vector_effect, reduce_by};
+
+use number::{Integer, Lane};
 
 // ---- lanes of all modes but 4
 
@@ -28,30 +31,17 @@ pub struct Alu {
     pub clamps: bool,
 }
 
-fn sum16(z: u16, t: i32, how: Alu) -> u16
-    ensures { result ≡ wrap (span 2) (summed how (signed 2 z) t) }
+fn sum<T: Integer>(z: T, t: i32, how: Alu) -> T
+    ensures { T.Lane.bits result ≡ wrap (span T.Lane.BYTES) (summed how (signed T.Lane.BYTES (T.Lane.bits z)) t) }
 {
-    let v = number::wrapped16(t as i64);
+    let v = T::wrapped(i64::from(t));
     if !how.keeps {
         return v;
     }
     if how.negates {
-        return std::num::wrapping_sub_u16(z, v);
+        return z.minus(v);
     }
-    std::num::wrapping_add_u16(z, v)
-}
-
-fn sum32(z: u32, t: i32, how: Alu) -> u32
-    ensures { result ≡ wrap (span 4) (summed how (signed 4 z) t) }
-{
-    let v = number::wrapped32(t as i64);
-    if !how.keeps {
-        return v;
-    }
-    if how.negates {
-        return std::num::wrapping_sub_u32(z, v);
-    }
-    std::num::wrapping_add_u32(z, v)
+    z.plus(v)
 }
 
 fn signed_by(t: i64, negates: bool) -> i64
@@ -64,52 +54,57 @@ fn clamp16(z: u16, t: i32, how: Alu) -> u16
     ensures { result ≡ wrap (span 2) (clamped_sum how (signed 2 z) t) }
 {
     if how.keeps {
-        let v = number::added(number::signed16(z) as i64, signed_by(t as i64, how.negates));
-        return number::wrapped16(number::clamped(-32_768, 32_767, v));
+        let v = number::added(z.signed(), signed_by(i64::from(t), how.negates));
+        return u16::wrapped(number::clamped(-32_768, 32_767, v));
     }
-    number::wrapped16(number::clamped(-32_768, 32_767, t as i64))
+    u16::wrapped(number::clamped(-32_768, 32_767, i64::from(t)))
 }
 
-fn new16(z: u16, t: i32, how: Alu) -> u16
-    ensures { result ≡ wrap (span 2) (accumulated false how (signed 2 z) t) }
-{
-    if how.clamps {
-        return clamp16(z, t, how);
+// The lanes of Z, of two bytes or four; those of two bytes may be clamped.
+trait Accumulated: Integer {
+    ghost wide: { Bool };
+
+    fn accumulated(self, t: i32, how: Alu) -> Self
+        ensures { Self.Lane.bits result ≡
+            wrap (span Self.Lane.BYTES) (accumulated wide how (signed Self.Lane.BYTES (Self.Lane.bits self)) t) };
+
+    ghost width: { z_bytes wide ≡ Self.Lane.BYTES };
+}
+
+impl Accumulated for u16 {
+    ghost wide = { false };
+
+    fn accumulated(self, t: i32, how: Alu) -> u16 {
+        if how.clamps {
+            return clamp16(self, t, how);
+        }
+        sum(self, t, how)
     }
-    sum16(z, t, how)
+
+    ghost width = { refl };
+}
+
+impl Accumulated for u32 {
+    ghost wide = { true };
+
+    fn accumulated(self, t: i32, how: Alu) -> u32 {
+        sum(self, t, how)
+    }
+
+    ghost width = { refl };
 }
 
 // The old number where the lane is off.
-fn chosen16(on: bool, n: u16, z: u16) -> u16
-    ensures { result ≡ (if on then n else z) }
+fn lane<T: Accumulated>(state: &mut [u8], at: usize, t: i32, on: bool, how: Alu)
+    requires { at + T.Lane.BYTES ≤ length state.old }
+    ensures { state.new ≡ lane_stored T.wide how state.old at t on }
 {
-    if on { n } else { z }
+    let z = T::load(state, at);
+    number::chosen(on, z.accumulated(t, how), z).store(state, at);
 }
 
-fn chosen32(on: bool, n: u32, z: u32) -> u32
-    ensures { result ≡ (if on then n else z) }
-{
-    if on { n } else { z }
-}
-
-fn lane16(state: &mut [u8], at: usize, t: i32, on: bool, how: Alu)
-    ensures { state.new ≡ lane_stored false how state.old at t on }
-{
-    let z = number::get16(state, at);
-    let n = new16(z, t, how);
-    number::put16(state, at, chosen16(on, n, z));
-}
-
-fn lane32(state: &mut [u8], at: usize, t: i32, on: bool, how: Alu)
-    ensures { state.new ≡ lane_stored true how state.old at t on }
-{
-    let z = number::get32(state, at);
-    let n = sum32(z, t, how);
-    number::put32(state, at, chosen32(on, n, z));
-}
-
-// A row: its lane l takes term l c + q. The row is taken modulo 64, so that the compiler knows that no lane lies past the end.
-fn alu_row16(
+// A row: its lane l takes term l c + q.
+fn row_in<T: Accumulated, const N: usize>(
     state: &mut [u8],
     row: usize,
     q: usize,
@@ -118,32 +113,19 @@ fn alu_row16(
     on: &[bool; 64],
     how: Alu,
 )
-    requires { (length state.old ≡ register_bytes) × (row < 64) × (q < c) × (c ≤ 2) }
-    ensures { state.new ≡ applied (row_of false row q c terms.now on.now how) state.old }
+    requires { (length state.old ≡ register_bytes) × (row < 64) × (q < c) × (N * c ≤ 64) × (N * T.Lane.BYTES ≡ 64) }
+    ensures { state.new ≡ applied (row_of T.wide row q c terms.now on.now how) state.old }
 {
-    let start = 1024 + row % 64 * 64;
-    for l in 0..32 {
+    // by the index, which gives each lane its place
+    for l in 0..N {
         let k = l * c + q;
-        lane16(state, start + l * 2, terms[k], on[k], how);
-    }
-}
-
-fn alu_row32(
-    state: &mut [u8],
-    row: usize,
-    q: usize,
-    c: usize,
-    terms: &[i32; 64],
-    on: &[bool; 64],
-    how: Alu,
-)
-    requires { (length state.old ≡ register_bytes) × (row < 64) × (q < c) × (c ≤ 4) }
-    ensures { state.new ≡ applied (row_of true row q c terms.now on.now how) state.old }
-{
-    let start = 1024 + row % 64 * 64;
-    for l in 0..16 {
-        let k = l * c + q;
-        lane32(state, start + l * 4, terms[k], on[k], how);
+        lane::<T>(
+            state,
+            1024 + (row * 64 + l * T::BYTES),
+            terms[k],
+            on[k],
+            how,
+        );
     }
 }
 
@@ -161,10 +143,10 @@ fn alu_row(
     ensures { state.new ≡ applied (row_of wide row q c terms.now on.now how) state.old }
 {
     if wide {
-        alu_row32(state, row, q, c, terms, on, how);
+        row_in::<u32, 16>(state, row, q, c, terms, on, how);
         return;
     }
-    alu_row16(state, row, q, c, terms, on, how);
+    row_in::<u16, 32>(state, row, q, c, terms, on, how);
 }
 
 // The c rows that the lanes of a vector are dealt to, from a row on.
@@ -188,49 +170,28 @@ fn alu_rows(
 
 // ---- modes
 
+#[tactic(auto, unfolding(crate::specs::Modes::sums_in))]
 fn sums_in(mode: u64) -> bool
     ensures { result ≡ sums_in mode }
 {
-    if mode == 0 {
-        return false;
-    }
-    if mode == 1 {
-        return false;
-    }
-    if mode == 5 {
-        return false;
-    }
-    if mode == 6 {
-        return false;
-    }
-    mode != 10
+    !matches!(mode, 0 | 1 | 5 | 6 | 10)
 }
 
+#[tactic(auto, unfolding(crate::specs::Modes::y_alone))]
 fn y_alone(mode: u64) -> bool
     ensures { result ≡ y_alone mode }
 {
-    if mode == 2 {
-        return false;
+    match mode {
+        2 | 3 | 11 => false,
+        _ => sums_in(mode),
     }
-    if mode == 3 {
-        return false;
-    }
-    if mode == 11 {
-        return false;
-    }
-    sums_in(mode)
 }
 
+#[tactic(auto, unfolding(crate::specs::Modes::negates_in))]
 fn negates_in(mode: u64) -> bool
     ensures { result ≡ negates_in mode }
 {
-    if mode == 1 {
-        return true;
-    }
-    if mode == 3 {
-        return true;
-    }
-    mode == 6
+    matches!(mode, 1 | 3 | 6)
 }
 
 // What an operand's mode does, and nothing but 0 where its output is forced to 0.
@@ -260,6 +221,17 @@ fn alu_by(generation: u64, op: u64) -> Alu
 
 // ---- the sides of a vector
 
+// A lane of X for every lane: by broadcast mode 6 its lane 0.
+fn fixed_x(generation: u64, op: u64) -> Option<usize>
+    ensures { result ≡ fixed_x generation op }
+{
+    if operand::broadcasts(generation, op, 6, 6) {
+        Some(0)
+    } else {
+        None
+    }
+}
+
 // How the lanes of X are read.
 fn x_side(generation: u64, op: u64) -> sides::SideForm
     ensures { result ≡ x_side_of generation op }
@@ -267,29 +239,26 @@ fn x_side(generation: u64, op: u64) -> sides::SideForm
     sides::SideForm {
         wide: operand::x_width(op) == 2,
         sign: operand::flag(op, 63),
-        fixed: operand::broadcasts(generation, op, 6, 6),
-        lane: 0,
+        fixed: fixed_x(generation, op),
         halved: operand::y_width(op) == 1,
     }
 }
 
 // A lane of Y for every lane: by broadcast mode 7 its lane 0, by enable mode 1 the lane that the value names.
-fn fixed_y(generation: u64, op: u64) -> bool
+fn fixed_y(generation: u64, op: u64) -> Option<usize>
     ensures { result ≡ fixed_y generation op }
 {
     if operand::several(generation, op) {
-        return operand::field(op, 32, 34) == 7;
+        return if operand::field(op, 32, 34) == 7 {
+            Some(0)
+        } else {
+            None
+        };
     }
-    operand::field(op, 38, 40) == 1
-}
-
-fn lane_y(generation: u64, op: u64) -> usize
-    ensures { result ≡ lane_y generation op }
-{
-    if operand::several(generation, op) {
-        return 0;
+    if operand::field(op, 38, 40) == 1 {
+        return Some(operand::field(op, 32, 37) as usize);
     }
-    operand::field(op, 32, 37) as usize
+    None
 }
 
 fn y_side(generation: u64, op: u64) -> sides::SideForm
@@ -299,7 +268,6 @@ fn y_side(generation: u64, op: u64) -> sides::SideForm
         wide: operand::y_width(op) == 2,
         sign: operand::flag(op, 26),
         fixed: fixed_y(generation, op),
-        lane: lane_y(generation, op),
         halved: operand::x_width(op) == 1,
     }
 }
@@ -319,8 +287,10 @@ fn vector_terms(state: &[u8], generation: u64, op: u64, v: usize, how: Alu) -> [
         y_side(generation, op),
         operand::vector_lanes(op),
         how.sums,
-        how.clamps,
-        operand::vecint_shift(op),
+        sides::Shift {
+            rounds: how.clamps,
+            by: operand::vecint_shift(op),
+        },
     )
 }
 
@@ -348,14 +318,20 @@ fn alu_vector(state: &mut [u8], generation: u64, op: u64, v: usize, on: &[bool; 
 fn reduce_by(generation: u64, op: u64) -> reduction::Reduce
     ensures { result ≡ reduce_by generation op }
 {
+    let range = reduction::Range {
+        below: operand::flag(op, 26),
+        width: operand::saturation_width(op),
+    };
     reduction::Reduce {
         clears: operand::overrides(generation, op, 3, 1),
         sign: operand::flag(op, 63),
         rounds: operand::flag(op, 29),
         shift: operand::vecint_shift(op),
-        clamps: operand::flag(op, 30),
-        below: operand::flag(op, 26),
-        width: operand::saturation_width(op),
+        clamp: if operand::flag(op, 30) {
+            Some(range)
+        } else {
+            None
+        },
     }
 }
 
@@ -424,7 +400,7 @@ pub fn step(state: &mut [u8], generation: u64, op: u64) -> u64
         return 0;
     }
     let mask = masks::vecint_mask(generation, op);
-    let on = masks::lanes64(mask);
+    let on = masks::lanes::<64>(mask);
     each_vector(state, generation, op, &on);
     bytes_enabled(generation, op, mask)
 }

@@ -1,6 +1,6 @@
 use mathlib.Core.Path.{sym}
 use Prim.Native.Nat.{◌+◌}
-use Rattle.isa.specs.Call.{call, effect_of}
+use Rattle.isa.specs.Call.{effect_of}
 use Rattle.isa.proofs.Registers.{length-registers}
 use Rattle.amx.proofs.Table.{done-as}
 use Rattle.amx.proofs.done.Goals as goal
@@ -12,5 +12,5 @@ slice_bounds-run-end-2 c =
 pub returns : goal.returns
 returns c =
     let a = c.args in
-    done-as (effect_of (call a.instruction a.generation a.operand)) a.state.now c.run-bytes.new.registers c.raise.new.state c.run-bytes.result
+    done-as (effect_of a.call) a.state.now c.run-bytes.new.registers c.raise.new.state c.run-bytes.result
     (a.count + 1) c.requires.0 c.run-bytes.ensures c.raise.ensures

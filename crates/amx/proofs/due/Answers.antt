@@ -4,4 +4,4 @@ use Rattle.amx.proofs.due.Goals as goal
 pub returns : goal.returns
 returns c =
     let a = c.args in
-    due-is a.state.now c.get64.result c.get64.ensures c.get64.type_inv
+    due-is a.state.now c.get.result c.get.ensures c.get.type_inv

@@ -6,4 +6,4 @@ use Rattle.amx.proofs.raise.Goals as goal
 pub returns : goal.returns
 returns c =
     let a = c.args in
-    c.put64.ensures ∙ count-stored a.state.now (a.count + 1) c.requires.0
+    c.put.ensures ∙ count-stored a.state.now (a.count + 1) c.requires.0

@@ -1,41 +1,38 @@
-use mathlib.Core.Path.{refl}
-use Rattle.isa.specs.declared.Answer.TheVariants as answer
+use mathlib.Core.Path.{refl, sym, ap, ◌∙◌}
+use Rattle.std.specs.Prelude.{Ok, Err}
+use Rattle.isa.specs.declared.NotDone.TheVariants as not_done
+use Rattle.isa.specs.Call.{call}
 use Rattle.amx.proofs.Table.{step-needs, step-done, step-no-op, step-refused}
 use Rattle.amx.proofs.step.Goals as goal
 
 pub done-requires : goal.done-requires
 done-requires c =
-    let told = c.in-Done in
     let a = c.args in
-    step-needs a.instruction a.generation a.operand a.serial a.state.now c.due-count.result c.due-count.ensures
-    c.answered-answer.result (answer.Done told.bytes) c.answered-answer.ensures told.is refl
+    step-needs (call a.instruction a.generation a.operand) a.serial a.state.now c.due-count.ensures c.answered.ensures (Ok tt) c.in-Ok.is refl
 
 pub raise-requires : goal.raise-requires
 raise-requires c =
-    let told = c.in-NoOp in
     let a = c.args in
-    step-needs a.instruction a.generation a.operand a.serial a.state.now c.due-count.result c.due-count.ensures
-    c.answered-answer.result (answer.NoOp told.r) c.answered-answer.ensures told.is refl
+    let why = c.in-Err-NoOp in
+    step-needs (call a.instruction a.generation a.operand) a.serial a.state.now c.due-count.ensures c.answered.ensures
+    (Err (not_done.NoOp why.r)) (why.is ∙ ap Err why.field-0-is) refl
 
-pub returns-in-Done : goal.returns-in-Done
-returns-in-Done c =
-    let told = c.in-Done in
+pub returns-in-Ok : goal.returns-in-Ok
+returns-in-Ok c =
     let a = c.args in
-    step-done a.instruction a.generation a.operand a.serial a.state.now c.due-count.result c.due-count.ensures
-    c.answered-answer.result (answer.Done told.bytes) c.answered-answer.ensures told.is told.bytes c.done.result c.done.new.state
-    refl c.done.ensures.0 c.done.ensures.1
+    step-done (call a.instruction a.generation a.operand) a.serial a.state.now c.due-count.ensures c.answered.ensures
+    c.done.result c.done.new.state c.in-Ok.is c.done.ensures.0 c.done.ensures.1
 
-pub returns-in-NoOp : goal.returns-in-NoOp
-returns-in-NoOp c =
-    let told = c.in-NoOp in
+pub returns-in-Err-NoOp : goal.returns-in-Err-NoOp
+returns-in-Err-NoOp c =
     let a = c.args in
-    step-no-op a.instruction a.generation a.operand a.serial a.state.now c.due-count.result c.due-count.ensures
-    c.answered-answer.result (answer.NoOp told.r) c.answered-answer.ensures told.is told.r c.raise.new.state
-    refl c.raise.ensures
+    let why = c.in-Err-NoOp in
+    step-no-op (call a.instruction a.generation a.operand) a.serial a.state.now c.due-count.ensures c.answered.ensures
+    _ c.raise.new.state (why.is ∙ ap Err (why.field-0-is ∙ ap not_done.NoOp (sym why.r-is))) c.raise.ensures
 
-pub returns-in-Refused : goal.returns-in-Refused
-returns-in-Refused c =
-    let told = c.in-Refused in
+pub returns-in-Err-Refused : goal.returns-in-Err-Refused
+returns-in-Err-Refused c =
     let a = c.args in
-    step-refused a.instruction a.generation a.operand a.serial a.state.now c.due-count.result c.due-count.ensures
-    c.answered-answer.result (answer.Refused told.r) c.answered-answer.ensures told.is told.r refl
+    let why = c.in-Err-Refused in
+    step-refused (call a.instruction a.generation a.operand) a.serial a.state.now c.due-count.ensures c.answered.ensures
+    _ (why.is ∙ ap Err (why.field-0-is ∙ ap not_done.Refused (sym why.r-is)))

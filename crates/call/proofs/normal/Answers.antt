@@ -1,23 +1,16 @@
-use mathlib.Core.Path.{refl, ap, ◌∙◌}
-use Rattle.isa.specs.declared.Answer.TheVariants as answer
-use Rattle.isa.specs.declared.Normal.TheVariants as normal
+use mathlib.Core.Path.{◌≡◌, sym, ap, ◌∙◌}
+use Rattle.std.proofs.Common.{rules}
+use Rattle.std.specs.Prelude.{Ok, Err}
 use Rattle.call.proofs.Rows.{normal_by}
 use Rattle.call.proofs.normal.Goals as goal
 
-pub returns-in-Done : goal.returns-in-Done
-returns-in-Done c =
-    let a = c.args in
-    ap normal.Operand c.normal_operand.ensures
-    ∙ normal_by a.instruction a.generation a.operand (answer.Done c.in-Done.bytes) (answer.Done c.in-Done.bytes)
-    c.in-Done.ensures refl
+pub returns-in_err-own_answered : goal.returns-in_err-own_answered
+returns-in_err-own_answered c =
+    let e = c.in_err-own_answered.field-0.0 in
+    let same : c.from_residual.result ≡ Err e = search rules in
+    same ∙ normal_by c.args.call (Err e) (sym c.in_err-own_answered.was ∙ c.own_answered.ensures)
 
-pub returns-in-NoOp : goal.returns-in-NoOp
-returns-in-NoOp c =
-    let a = c.args in
-    normal_by a.instruction a.generation a.operand (answer.NoOp c.in-NoOp.r) (answer.NoOp c.in-NoOp.r) c.in-NoOp.ensures refl
-
-pub returns-in-Refused : goal.returns-in-Refused
-returns-in-Refused c =
-    let a = c.args in
-    normal_by a.instruction a.generation a.operand (answer.Refused c.in-Refused.r) (answer.Refused c.in-Refused.r)
-    c.in-Refused.ensures refl
+pub returns : goal.returns
+returns c =
+    ap Ok c.normal_operand.ensures
+    ∙ normal_by c.args.call (Ok tt) (sym c.in_ok-own_answered.was ∙ c.own_answered.ensures)

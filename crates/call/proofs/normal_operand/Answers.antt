@@ -1,37 +1,23 @@
-use mathlib.Core.Path.{sym, ap, ◌∙◌}
-use Prim.Native.Nat.{ℕ}
-use Rattle.isa.specs.Call.{Instruction, call}
-use Rattle.isa.specs.Normal.{ignored_by, cleared_all, normal_operand}
-use Rattle.call.proofs.Rows.{is-other}
+use Rattle.std.proofs.Common.{rules}
+use Rattle.isa.specs.Normal.{normal_operand}
 use Rattle.call.proofs.normal_operand.Goals as goal
 
-pub returns-then-instruction-eq14 : goal.returns-then-instruction-eq14
+pub returns-in-14 : goal.returns-in-14
 unfolding normal_operand
-returns-then-instruction-eq14 c =
-    let a = c.args in
-    c.mac16_operand.ensures ∙ sym (ap (λ (k : ℕ). normal_operand (call k a.generation a.op)) c.if-instruction-eq14.true)
+returns-in-14 c = search rules
 
-pub returns-then-instruction-eq18 : goal.returns-then-instruction-eq18
+pub returns-in-18 : goal.returns-in-18
 unfolding normal_operand
-returns-then-instruction-eq18 c =
-    let a = c.args in
-    c.vecint_operand.ensures ∙ sym (ap (λ (k : ℕ). normal_operand (call k a.generation a.op)) c.if-instruction-eq18.true)
+returns-in-18 c = search rules
 
-pub returns-then-instruction-eq19 : goal.returns-then-instruction-eq19
+pub returns-in-19 : goal.returns-in-19
 unfolding normal_operand
-returns-then-instruction-eq19 c =
-    let a = c.args in
-    c.vecfp_operand.ensures ∙ sym (ap (λ (k : ℕ). normal_operand (call k a.generation a.op)) c.if-instruction-eq19.true)
+returns-in-19 c = search rules
 
-pub returns-then-instruction-eq11 : goal.returns-then-instruction-eq11
+pub returns-in-11 : goal.returns-in-11
 unfolding normal_operand
-returns-then-instruction-eq11 c =
-    let a = c.args in
-    c.fms64_operand.ensures ∙ sym (ap (λ (k : ℕ). normal_operand (call k a.generation a.op)) c.if-instruction-eq11.true)
+returns-in-11 c = search rules
 
-pub returns : goal.returns
+pub returns-in_default : goal.returns-in_default
 unfolding normal_operand
-returns c =
-    let a = c.args in
-    sym (ap (λ (k : Instruction). cleared_all (ignored_by k a.generation a.op) a.op)
-    (is-other a.instruction c.if-instruction-eq18.false c.if-instruction-eq19.false c.if-instruction-eq11.false c.if-instruction-eq14.false))
+returns-in_default c = search rules

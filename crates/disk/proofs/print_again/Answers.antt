@@ -4,8 +4,8 @@ use native.Mathlib.Omega.{arith}
 use Rattle.disk.proofs.Files.{saved_told}
 use Rattle.disk.proofs.print_again.Goals as goal
 
-pub print_runs-turn-requires : goal.print_runs-turn-requires
-print_runs-turn-requires c =
+pub print_runs-requires : goal.print_runs-requires
+print_runs-requires c =
     let a = c.args in
     let p = c.requires in
     let number = c.consumed-consumed in (

@@ -4,11 +4,11 @@ use Rattle.disk.proofs.Files.{alone-head, opened_most}
 use Rattle.disk.proofs.print_open.Goals as goal
 
 pub overflow_cast-n : goal.overflow_cast-n
-overflow_cast-n c = omega (arith, opened_most c.args.head.now c.open-opened.result c.in-Steps.n c.open-opened.ensures c.in-Steps.is)
+overflow_cast-n c = omega (arith, opened_most c.args.head.now c.open.result c.in-Ok.n c.open.ensures c.in-Ok.is)
 
-pub overflow_cast-n-in-Steps : goal.overflow_cast-n-in-Steps
-overflow_cast-n-in-Steps c = omega (arith, opened_most c.args.head.now c.open-opened.result c.in-Steps.n c.open-opened.ensures c.in-Steps.is)
+pub overflow_cast-n-in-Ok : goal.overflow_cast-n-in-Ok
+overflow_cast-n-in-Ok c = omega (arith, opened_most c.args.head.now c.open.result c.in-Ok.n c.open.ensures c.in-Ok.is)
 
 pub print_refused-requires : goal.print_refused-requires
 print_refused-requires c =
-    (alone-head c.args.head.now c.open-opened.result c.in-Refused.refusal c.open-opened.ensures c.in-Refused.is, search rules)
+    (alone-head c.args.head.now c.open.result c.in-Err.refusal c.open.ensures c.in-Err.is, search rules)

@@ -1,19 +1,18 @@
-use mathlib.Core.Path.{ap, ◌∙◌}
-use mathlib.Core.List.{List}
-use Prim.Native.Nat.{ℕ}
-use lib.Seq.{sets}
-use Rattle.number.specs.Bytes.{bytes_of}
-use Rattle.file.specs.File.{start_of}
-use Rattle.file.proofs.States.{load-other, load_start_lem}
+use native.Mathlib.Omega.{arith}
+use mathlib.Core.Path.{sym, ◌∙◌}
+use lib.Seq.{length-take-le}
+use Rattle.file.proofs.States.{load_start_lem}
 use Rattle.file.proofs.load_start.Goals as goal
 
-pub returns-then-state-ne5128 : goal.returns-then-state-ne5128
-returns-then-state-ne5128 c =
-    let a = c.args in
-    load-other (start_of a.head.now) a.state.now c.if-state-ne5128.true
+pub slice_bounds-copy_bytes-end-2 : goal.slice_bounds-copy_bytes-end-2
+slice_bounds-copy_bytes-end-2 c = sym (length-take-le 5120 c.args.state.now (omega arith))
+
+pub copy_bytes-requires : goal.copy_bytes-requires
+copy_bytes-requires c = (omega (arith, c.contents_length.ensures), omega (arith, length-take-le 5120 c.args.state.now (omega arith)))
 
 pub returns : goal.returns
 returns c =
     let a = c.args in
-    c.put64.ensures ∙ ap (λ (s : List ℕ). sets s 5120 (bytes_of 8 0)) c.copy_bytes.ensures
-    ∙ load_start_lem a.head.now a.state.now c.contents_length-registers.result c.if-state-ne5128.false c.contents_length-registers.ensures.0
+    c.put.ensures
+    ∙ load_start_lem a.head.now a.state.now c.copy_bytes.new.out c.contents_length.result c.if-state-ne5128.false
+    c.contents_length.ensures.0 c.copy_bytes.ensures

@@ -1,12 +1,15 @@
+use mathlib.Core.Path.{◌∙◌}
+use borrow.Author.Tests.{ne_eqb}
 use Rattle.file.proofs.Paddings.{pair_set, by-quartet}
 use Rattle.file.proofs.padding_clear.Goals as goal
 
-pub returns-then-get16-ne0 : goal.returns-then-get16-ne0
-returns-then-get16-ne0 c =
+pub returns-then-get-eq0 : goal.returns-then-get-eq0
+returns-then-get-eq0 c =
     let a = c.args in
-    pair_set a.steps.now a.i c.get16.result c.get16.ensures c.if-get16-ne0.true
+    let quartet = c.get-then-get-eq0 in
+    by-quartet a.steps.now a.i c.get.result quartet.result c.get.ensures c.if-get-eq0.true quartet.ensures
 
-pub returns : goal.returns
-returns c =
+pub returns-else-get-eq0 : goal.returns-else-get-eq0
+returns-else-get-eq0 c =
     let a = c.args in
-    by-quartet a.steps.now a.i c.get16.result c.get32.result c.get16.ensures c.if-get16-ne0.false c.get32.ensures
+    ne_eqb c.get.result 0 c.if-get-eq0.false ∙ pair_set a.steps.now a.i c.get.result c.get.ensures c.if-get-eq0.false

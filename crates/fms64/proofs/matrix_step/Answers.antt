@@ -22,6 +22,6 @@ pub returns : goal.returns
 returns c =
     let a = c.args in (
       c.matrix_rows.ensures,
-      matrix-count a.op c.x_mask-x.result c.count_first.result c.x_mask-x.ensures c.count_first.ensures.0 c.requires.1
+      matrix-count a.op c.x_mask-x.result c.count_first.result c.x_mask-x.ensures c.count_first.ensures.0 c.requires
           c.y_mask-y.result c.count_first-2.result c.y_mask-y.ensures c.count_first-2.ensures.0,
     )

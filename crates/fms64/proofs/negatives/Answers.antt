@@ -1,15 +1,8 @@
-use Rattle.number.proofs.Fill.{filling-none, filling-more, filling-all}
-use lib.ListN.{replicate}
-use native.Mathlib.Omega.{arith}
-use mathlib.Core.Path.{refl}
+use Rattle.std.proofs.Common.{rules, get_or}
+use Rattle.std.specs.Float.{binary64}
+use Rattle.number.proofs.Made.{from_fn-table}
+use Rattle.float.specs.Floats.{negated}
 use Rattle.fms64.proofs.negatives.Goals as goal
 
-pub loop-l-init : goal.loop-l-init
-loop-l-init c = filling-none 0 _ 8 (replicate 8 0) refl
-
-pub loop-l-preserved : goal.loop-l-preserved
-loop-l-preserved c =
-    filling-more 0 _ 8 c.loop-l.l c.neg64.result c.loop-l.out (omega arith) c.neg64.ensures c.loop-l.invariant
-
 pub returns : goal.returns
-returns c = filling-all 0 _ 8 c.loop-l.l c.loop-l.out c.loop-l-test.false c.loop-l.invariant
+returns c = from_fn-table (λ l. negated binary64 (get_or c.args.ts.now l 0)) (λ i y q h k. search rules) c.from_fn.ensures.items

@@ -5,13 +5,12 @@ use Rattle.fms64.proofs.vector_rows.Goals as goal
 
 pub returns-then-keeps_z : goal.returns-then-keeps_z
 returns-then-keeps_z c =
-    let a = c.args in
-    kept-meant a.op a.state.now c.requires.0 (λ p. (c.slice_known-1.given p).fits) (sym c.keeps_z.ensures ∙ c.if-keeps_z.true)
+    kept-meant c.args.op c.args.state.now c.told-state c.fits-state (sym c.keeps_z.ensures ∙ c.if-keeps_z.true)
 
 pub returns : goal.returns
 returns c =
     let a = c.args in
-    vector-is a.op a.state.now c.less_row.new.state c.requires.0 (λ p. (c.slice_known-1.given p).fits)
-    c.keeps_z.result c.keeps_z.ensures c.if-keeps_z.false a.x c.requires.2 c.lanes8-on.result c.lanes8-on.ensures
-    c.terms-ts.result c.terms-ts.ensures c.flag.result c.flag.ensures c.z_row.result c.z_row.ensures.0
-    c.requires.1 c.less_row.ensures
+    let less = c.less_of-less.ensures in
+    vector-is a.op a.state.now c.row.new.state c.told-state c.fits-state c.keeps_z.result c.keeps_z.ensures c.if-keeps_z.false
+    c.less_of-less.result.on less.2 c.less_of-less.result.terms less.0
+    c.less_of-less.result.skips_z less.3 c.z_row.result c.z_row.ensures.0 c.requires.0 c.row.ensures

@@ -5,5 +5,5 @@ pub returns : goal.returns
 returns c =
     let a = c.args in (
       c.vector_rows.ensures,
-      vector-count a.op c.x_mask-x.result c.count_first.result c.x_mask-x.ensures c.count_first.ensures.0 c.requires.1,
+      vector-count a.op c.x_mask-x.result c.count_first.result c.x_mask-x.ensures c.count_first.ensures.0 c.requires,
     )

@@ -1,5 +1,5 @@
 use mathlib.Core.Path.{refl}
-use Rattle.masks.proofs.Lanes.{lane-in_word}
+use Rattle.masks.proofs.Bools.{lane-in_word}
 use Rattle.masks.proofs.is_on.Goals as goal
 
 pub returns : goal.returns

@@ -1,16 +1,11 @@
-use mathlib.Core.Path.{ap, ◌∙◌}
+use mathlib.Core.Path.{ap}
 use mathlib.Core.Bool.{Bool, ◌||◌}
 use borrow.Author.Tests.{eq-eqb}
 use Rattle.isa.specs.Enable as Enable
-use Rattle.masks.proofs.Enabled.{all-is, not_all}
+use Rattle.masks.proofs.Enabled.{all-is}
 use Rattle.masks.proofs.last_or_all.Goals as goal
 
 pub returns-then-n-eq0 : goal.returns-then-n-eq0
 returns-then-n-eq0 c =
     let a = c.args in
     all-is _ (λ k h. ap (λ (b : Bool). b || Enable.last a.lanes a.n k) (eq-eqb _ _ c.if-n-eq0.true))
-
-pub returns : goal.returns
-returns c =
-    let a = c.args in
-    c.last.ensures ∙ not_all (Enable.last a.lanes a.n) a.n c.if-n-eq0.false

@@ -1,27 +1,20 @@
-use mathlib.Core.Path.{refl, ◌∙◌}
+use mathlib.Core.Path.{◌∙◌}
+use native.Mathlib.Omega.{arith}
 use Rattle.isa.specs.Enable.{mac16_enables}
-use Rattle.masks.proofs.Enabled.{in_mode, mac16-mode_3}
+use Rattle.masks.proofs.Enabled.{mac16-mode, mac16-mode_3}
 use Rattle.masks.proofs.mac16_mask.Goals as goal
 
-pub returns-then-mode-eq0 : goal.returns-then-mode-eq0
+pub returns-in-0 : goal.returns-in-0
 unfolding mac16_enables
-returns-then-mode-eq0 c =
-    let a = c.args in
-    c.by_parity.ensures ∙ in_mode (λ m. mac16_enables a.lanes m a.n) 0 _ (λ k. refl) a.mode c.if-mode-eq0.true
+returns-in-0 c = c.by_parity.ensures ∙ mac16-mode c.args.lanes c.args.n c.in-0.is
 
-pub returns-then-mode-eq1 : goal.returns-then-mode-eq1
+pub returns-in-1 : goal.returns-in-1
 unfolding mac16_enables
-returns-then-mode-eq1 c =
-    let a = c.args in
-    c.only.ensures ∙ in_mode (λ m. mac16_enables a.lanes m a.n) 1 _ (λ k. refl) a.mode c.if-mode-eq1.true
+returns-in-1 c = c.only.ensures ∙ mac16-mode c.args.lanes c.args.n c.in-1.is
 
-pub returns-then-mode-eq2 : goal.returns-then-mode-eq2
+pub returns-in-2 : goal.returns-in-2
 unfolding mac16_enables
-returns-then-mode-eq2 c =
-    let a = c.args in
-    c.first_or_all.ensures ∙ in_mode (λ m. mac16_enables a.lanes m a.n) 2 _ (λ k. refl) a.mode c.if-mode-eq2.true
+returns-in-2 c = c.first_or_all.ensures ∙ mac16-mode c.args.lanes c.args.n c.in-2.is
 
-pub returns : goal.returns
-returns c =
-    let a = c.args in
-    c.last_or_all.ensures ∙ mac16-mode_3 a.lanes a.mode a.n c.if-mode-eq0.false c.if-mode-eq1.false c.if-mode-eq2.false
+pub returns-in_default : goal.returns-in_default
+returns-in_default c = c.last_or_all.ensures ∙ mac16-mode_3 c.args.lanes c.args.mode c.args.n (omega arith)

@@ -1,13 +1,14 @@
-use Rattle.number.proofs.Modular.{wrap-negative}
+use Rattle.number.proofs.Modular.{wrap-from_m}
+use Rattle.number.proofs.Range.{bits-kept, bits-signed}
 use Rattle.number.specs.Integers.{signed}
-use Rattle.std.proofs.Common.{ℕ, ◌+◌, ◌%◌, ◌^◌, sym, ap, ◌∙◌, arith, pow_pos, to_z-of_z}
+use Rattle.std.proofs.Common.{ℕ, ◌-◌, ◌%◌, ◌^◌, refl, ap, ◌∙◌, pow_pos, mod-lt, arith, to_z-of_z, w64}
 use borrow.Author.Rules.{sfits_of}
-use mir.Syntax.{w64}
 use Rattle.number.proofs.negated.Goals as goal
 
 pub returns : goal.returns
 returns c =
-    to_z-of_z {w = w64} (sfits_of c.signed64.type_inv) ∙ c.signed64.ensures
+    let v = c.args.v in
+    to_z-of_z {w = w64} (sfits_of c.wrapping_neg.type_inv) ∙ rw (to_z-of_z c.ranges.v) at c.wrapping_neg.ensures
+    ∙ bits-signed w64 8 _ refl refl (mod-lt _ (pow_pos 64))
     ∙ ap (signed 8)
-    (wrap-negative (2 ^ 64) (pow_pos 64) c.args.v c.wrapping_sub_u64.result (omega arith)
-    (ap (λ (x : ℕ). (c.wrapping_sub_u64.result + x) % 2 ^ 64) (sym (rw (to_z-of_z c.ranges.v) at c.bits64.ensures)) ∙ c.wrapping_sub_u64.ensures.value))
+    (ap (λ (x : ℕ). (2 ^ 64 - x) % 2 ^ 64) (bits-kept w64 v (omega (arith, c.ranges.v.sfits))) ∙ wrap-from_m (2 ^ 64) (pow_pos 64) v)

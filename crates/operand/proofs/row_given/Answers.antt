@@ -1,17 +1,15 @@
-use Rattle.operand.proofs.Rows.{given-of-16, given-of-32, given-of-64}
+use mathlib.Core.Path.{ap₂}
+use Prim.Native.Nat.{◌%◌, ◌<◌}
+use native.Mathlib.Nat.{mod-lt}
+use native.Mathlib.Omega.{arith}
+use Rattle.operand.proofs.Rows.{stride-from}
 use Rattle.operand.proofs.row_given.Goals as goal
 
-pub returns-then-rows-eq16 : goal.returns-then-rows-eq16
-returns-then-rows-eq16 c =
-    let a = c.args in
-    given-of-16 a.generation a.op c.stride-rows.result c.stride-rows.ensures.0 c.field-row.result c.field-row.ensures c.if-rows-eq16.true
-
-pub returns-then-rows-eq32 : goal.returns-then-rows-eq32
-returns-then-rows-eq32 c =
-    let a = c.args in
-    given-of-32 a.generation a.op c.stride-rows.result c.stride-rows.ensures.0 c.field-row.result c.field-row.ensures c.if-rows-eq32.true
+pub nonzero_rem-result : goal.nonzero_rem-result
+nonzero_rem-result c = omega (arith, c.stride.ensures.0, stride-from c.args.generation c.args.op)
 
 pub returns : goal.returns
 returns c =
-    let a = c.args in
-    given-of-64 a.generation a.op c.stride-rows.result c.stride-rows.ensures.0 c.field-row.result c.field-row.ensures c.if-rows-eq16.false c.if-rows-eq32.false
+    let from = stride-from c.args.generation c.args.op in
+    let below : c.field.result % c.stride.result < c.stride.result = mod-lt c.field.result (omega (arith, c.stride.ensures.0, from)) in
+    (ap₂ ◌%◌ c.field.ensures c.stride.ensures.0, omega (arith, below, c.stride.ensures.1))

@@ -7,7 +7,7 @@ pub returns-then-reduces : goal.returns-then-reduces
 returns-then-reduces c =
     let op = c.args.op in (
       c.lanes_of.ensures.0 ∙ lanes-by c.z_width.result _ (z_width_cases op) c.z_width.ensures.0
-          ∙ lanes-reducing op (sym c.reduces.ensures ∙ c.if-reduces.true),
+          ∙ lanes-reducing op (sym c.if-reduces.ensures),
       c.lanes_of.ensures.1,
     )
 
@@ -16,6 +16,6 @@ returns c =
     let op = c.args.op in (
       c.lanes_of-2.ensures.0
           ∙ lanes-by c.narrower.result _ (one-two_or_four (narrower-cases op)) c.narrower.ensures
-          ∙ sym (lanes-dealt op (sym c.reduces.ensures ∙ c.if-reduces.false)),
+          ∙ sym (lanes-dealt op (sym c.if-reduces.ensures)),
       c.lanes_of-2.ensures.1,
     )

@@ -1,11 +1,10 @@
-use Rattle.operand.proofs.Rows.{four-vectors, two-vectors, one-vector}
+use mathlib.Core.Path.{sym, ap, subst}
+use Prim.Native.Nat.{ℕ, ◌/◌, ◌≤◌}
+use Rattle.operand.proofs.Rows.{at_most_four}
 use Rattle.operand.proofs.vectors.Goals as goal
 
-pub returns-then-rows-eq16 : goal.returns-then-rows-eq16
-returns-then-rows-eq16 c = four-vectors c.args.generation c.args.op c.stride-rows.result c.stride-rows.ensures.0 c.if-rows-eq16.true
-
-pub returns-then-rows-eq32 : goal.returns-then-rows-eq32
-returns-then-rows-eq32 c = two-vectors c.args.generation c.args.op c.stride-rows.result c.stride-rows.ensures.0 c.if-rows-eq32.true
-
 pub returns : goal.returns
-returns c = one-vector c.args.generation c.args.op c.stride-rows.result c.stride-rows.ensures.0 c.if-rows-eq16.false c.if-rows-eq32.false
+returns c =
+    let a = c.args in
+    let same = ap (λ (n : ℕ). 64 / n) c.stride_power.ensures.0 in
+    (same, subst (λ (n : ℕ). n ≤ 4) (sym same) (at_most_four a.generation a.op))

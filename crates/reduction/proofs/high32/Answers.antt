@@ -12,13 +12,13 @@ pub overflow_cast-result : goal.overflow_cast-result
 overflow_cast-result c =
     let a = c.args in
     cast_fits c.clamped.result (subst (SFits w32) (sym (c.clamped.ensures
-    ∙ ap (clamp_signed 4) {y = high_end a.below a.width} (to_z-of_z {w = w64} (sfits_of c.high.type_inv) ∙ c.high.ensures)))
-    (high_fits (highest a.below a.width)))
+    ∙ ap (clamp_signed 4) {y = high_end a.to.below a.to.width} (to_z-of_z {w = w64} (sfits_of c.high.type_inv) ∙ c.high.ensures)))
+    (high_fits (highest a.to.below a.to.width)))
 
 pub returns : goal.returns
 returns c =
     let a = c.args in
     cast_is c.clamped.result (subst (SFits w32) (sym (c.clamped.ensures
-    ∙ ap (clamp_signed 4) {y = high_end a.below a.width} (to_z-of_z {w = w64} (sfits_of c.high.type_inv) ∙ c.high.ensures)))
-    (high_fits (highest a.below a.width))) ∙ (c.clamped.ensures
-    ∙ ap (clamp_signed 4) {y = high_end a.below a.width} (to_z-of_z {w = w64} (sfits_of c.high.type_inv) ∙ c.high.ensures))
+    ∙ ap (clamp_signed 4) {y = high_end a.to.below a.to.width} (to_z-of_z {w = w64} (sfits_of c.high.type_inv) ∙ c.high.ensures)))
+    (high_fits (highest a.to.below a.to.width))) ∙ (c.clamped.ensures
+    ∙ ap (clamp_signed 4) {y = high_end a.to.below a.to.width} (to_z-of_z {w = w64} (sfits_of c.high.type_inv) ∙ c.high.ensures))

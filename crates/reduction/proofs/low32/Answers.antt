@@ -5,7 +5,7 @@ use mir.Val.{SFits}
 use Rattle.reduction.proofs.low32.Goals as goal
 
 pub overflow_cast-result : goal.overflow_cast-result
-overflow_cast-result c = cast_fits c.low.result (subst (SFits w32) (sym c.low.ensures) (low_fits c.args.below c.args.width))
+overflow_cast-result c = cast_fits c.low.result (subst (SFits w32) (sym c.low.ensures) (low_fits c.args.to.below c.args.to.width))
 
 pub returns : goal.returns
-returns c = cast_is c.low.result (subst (SFits w32) (sym c.low.ensures) (low_fits c.args.below c.args.width)) ∙ c.low.ensures
+returns c = cast_is c.low.result (subst (SFits w32) (sym c.low.ensures) (low_fits c.args.to.below c.args.to.width)) ∙ c.low.ensures

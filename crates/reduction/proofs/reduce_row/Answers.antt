@@ -12,6 +12,3 @@ pub returns-then-row-ge64 : goal.returns-then-row-ge64
 returns-then-row-ge64 c =
     let a = c.args in
     row-outside a.b a.row a.on.now a.how a.state.now c.if-row-ge64.true ∙ sym (pick_true _ _ (eq-eqb (length a.state.now) 5120 c.if-state-ne5120.false))
-
-pub returns : goal.returns
-returns c = c.row_in.ensures ∙ sym (pick_true _ _ (eq-eqb (length c.args.state.now) 5120 c.if-state-ne5120.false))

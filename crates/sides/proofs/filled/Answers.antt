@@ -15,4 +15,4 @@ loop-i-preserved c =
     (omega arith, simp length-set (omega arith), fill_more 0 (λ k. a.v) c.loop-i.i a.v c.loop-i.out (omega arith) refl c.loop-i.invariant.2)
 
 pub returns : goal.returns
-returns c = λ k l h. c.loop-i.invariant.2 k (omega (arith, c.loop-i-test.false, inside c.args.n c.at_most_64-m.result c.at_most_64-m.ensures.0 k l h))
+returns c = λ k l h. c.loop-i.invariant.2 k (omega (arith, c.loop-i-test.false, inside c.args.n c.min-m.result c.min-m.ensures k l h))

@@ -1,6 +1,8 @@
 use Prim.Native.Nat.{◌%◌}
 use lib.IntN.{pos, ◌*ℤ◌}
-use mathlib.Core.Path.{refl, ap₂, ◌∙◌}
+use native.Mathlib.Omega.{arith}
+use Rattle.number.proofs.Range.{bits-signed}
+use mathlib.Core.Path.{refl, refl, ap₂, ◌∙◌}
 use mathlib.Core.Bool.{false}
 use borrow.Author.Rules.{sfits_of}
 use mir.Facts.{to_z-of_z}
@@ -12,6 +14,8 @@ use Rattle.sides.proofs.mixed_term.Goals as goal
 pub returns : goal.returns
 returns c =
     let a = c.args in
-    to_z-of_z {w = w32} (sfits_of c.moved.type_inv) ∙ kept-term false a.rounds (a.s % 32) (signed 2 a.x) (pos a.y) _ c.moved.result c.moved.type_inv
+    to_z-of_z {w = w32} (sfits_of c.moved.type_inv)
+    ∙ kept-term false a.shift.rounds (a.shift.by % 32) (signed 2 a.x) (pos a.y) _ c.moved.result c.moved.type_inv
     (to_z-of_z {w = w32} (sfits_of c.mixed_product.type_inv) ∙ c.mixed_product.ensures.0
-    ∙ ap₂ ◌*ℤ◌ (to_z-of_z {w = w16} (sfits_of c.signed16.type_inv) ∙ c.signed16.ensures) refl) c.moved.ensures
+    ∙ ap₂ ◌*ℤ◌ (to_z-of_z {w = w16} (sfits_of c.cast_signed.type_inv) ∙ c.cast_signed.ensures
+    ∙ bits-signed w16 2 a.x refl refl (omega arith)) refl) c.moved.ensures

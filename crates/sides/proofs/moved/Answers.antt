@@ -17,5 +17,5 @@ pub returns : goal.returns
 returns c =
     let a = c.args in
     to_z-of_z {w = w32} (sfits_of c.shifted32.type_inv) ∙ c.shifted32.ensures
-    ∙ ap (λ (z : ℤ). z ≫ (a.s % 32)) (sum_is a.v c.rounding32.result c.ranges.v (sfits_of c.rounding32.type_inv)
+    ∙ ap (λ (z : ℤ). z ≫ (a.shift.by % 32)) (sum_is a.v c.rounding32.result c.ranges.v (sfits_of c.rounding32.type_inv)
     (rounded a.v c.rounding32.result c.requires c.rounding32.ensures.1) ∙ ap (λ (z : ℤ). a.v +ℤ z) c.rounding32.ensures.0)

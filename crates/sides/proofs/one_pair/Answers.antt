@@ -3,4 +3,4 @@ use Rattle.sides.proofs.Lanes.{pair_is}
 use Rattle.sides.proofs.one_pair.Goals as goal
 
 pub returns : goal.returns
-returns c = pair_is c.args.bytes.now (c.args.lane % 32) c.pair.result c.pair.ensures
+returns c = pair_is c.args.bytes.now (c.args.lane % 32) c.load.result c.load.ensures

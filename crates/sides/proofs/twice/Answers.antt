@@ -13,4 +13,4 @@ pub loop-i-preserved : goal.loop-i-preserved
 loop-i-preserved c = (omega arith, simp length-set (omega arith), twice-more c.args.xs.now c.loop-i.i _ c.loop-i.out (omega arith) refl c.loop-i.invariant.2)
 
 pub returns : goal.returns
-returns c = λ k l h. c.loop-i.invariant.2 k (omega (arith, c.loop-i-test.false, inside c.args.n c.at_most_64.result c.at_most_64.ensures.0 k l h))
+returns c = λ k l h. c.loop-i.invariant.2 k (omega (arith, c.loop-i-test.false, inside c.args.n c.min.result c.min.ensures k l h))

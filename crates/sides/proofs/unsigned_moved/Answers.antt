@@ -14,8 +14,8 @@ overflow_cast-result c =
     let a = c.args in
     let n : ℕ = a.v + c.unsigned_rounding.result in
     let up =
-    shifted_up n (a.s % 32) c.shifted.result (omega arith)
-    (c.shifted.ensures.0 ∙ ap (λ (z : ℤ). z ≫ (a.s % 32)) (to_z_pos w64 {n = n} (omega arith)))
+    shifted_up n (a.shift.by % 32) c.shifted.result (omega arith)
+    (c.shifted.ensures.0 ∙ ap (λ (z : ℤ). z ≫ (a.shift.by % 32)) (to_z_pos w64 {n = n} (omega arith)))
     in
     rw (to_z-of_z {w = w64} (sfits_of c.shifted.type_inv)) (up.0, record { fits = up.1 })
 
@@ -23,6 +23,6 @@ pub returns : goal.returns
 returns c =
     let a = c.args in
     ap nat_abs {y = c.shifted.result} (to_z-of_z {w = w64} (sfits_of c.shifted.type_inv))
-    ∙ (shifted_up (a.v + c.unsigned_rounding.result) (a.s % 32) c.shifted.result (omega arith)
-    (c.shifted.ensures.0 ∙ ap (λ (z : ℤ). z ≫ (a.s % 32)) (to_z_pos w64 {n = (a.v + c.unsigned_rounding.result)} (omega arith)))).2
-    ∙ ap (λ (k : ℕ). (a.v + k) / 2 ^ (a.s % 32)) c.unsigned_rounding.ensures.0
+    ∙ (shifted_up (a.v + c.unsigned_rounding.result) (a.shift.by % 32) c.shifted.result (omega arith)
+    (c.shifted.ensures.0 ∙ ap (λ (z : ℤ). z ≫ (a.shift.by % 32)) (to_z_pos w64 {n = (a.v + c.unsigned_rounding.result)} (omega arith)))).2
+    ∙ ap (λ (k : ℕ). (a.v + k) / 2 ^ (a.shift.by % 32)) c.unsigned_rounding.ensures.0

@@ -27,8 +27,8 @@ loop-i-preserved c =
     let a = c.args in (
       omega arith,
       run_more (run_sum 2 a.row 1 a.values.now a.on.now a.keep) 32 refl a.row 1 a.state.now (omega arith) c.loop-i.i (omega arith) _ c.loop-i.state
-          c.sum_lane16.new.state c.loop-i.invariant.1
-          c.sum_lane16.ensures
+          c.sum_lane.new.state c.loop-i.invariant.1
+          c.sum_lane.ensures
           (summed 2 a.row 1 a.values.now a.on.now a.keep 32 refl a.state.now (λ p. (c.slice_known-1.given p).fits) c.loop-i.i _ (omega arith)
           (run-reads (run_sum 2 a.row 1 a.values.now a.on.now a.keep) 32 refl a.row 1 a.state.now (omega arith) c.loop-i.i (omega arith) c.loop-i.state
           c.loop-i.invariant.1)),

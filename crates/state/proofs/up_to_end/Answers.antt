@@ -1,13 +1,11 @@
-use Rattle.std.proofs.Common.{replicate, refl, arith}
-use Rattle.number.proofs.Fill.{filling-none, filling-more, filling-all}
+use Rattle.std.proofs.Common.{rules, sym, ◌∙◌, ◌+◌}
+use Rattle.number.specs.Bytes.{byte_at, number, table}
+use Rattle.number.proofs.Made.{from_fn-table}
+use Rattle.number.proofs.Slice.{one_byte}
 use Rattle.state.proofs.up_to_end.Goals as goal
 
-pub loop-i-init : goal.loop-i-init
-loop-i-init c = filling-none 0 _ 64 (replicate 64 0) refl
-
-pub loop-i-preserved : goal.loop-i-preserved
-loop-i-preserved c =
-    filling-more 0 _ 64 c.loop-i.i c.get8.result c.loop-i.out (omega arith) c.get8.ensures c.loop-i.invariant
-
 pub returns : goal.returns
-returns c = filling-all 0 _ 64 c.loop-i.i c.loop-i.out c.loop-i-test.false c.loop-i.invariant
+returns c =
+    let s = c.args.state.now in
+    from_fn-table (λ i. number 1 (byte_at s) (c.args.at + i)) (λ i y q h k. search rules) c.from_fn.ensures.items
+    ∙ (λ t. table (λ i. sym (one_byte (byte_at s) (c.args.at + i)) t) 0 64)

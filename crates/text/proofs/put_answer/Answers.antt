@@ -19,7 +19,7 @@ returns-in-NoOp c =
     let arm = c.in-NoOp in
     let word = c.put_word-next-in-NoOp in
     let digits = c.put_decimal-in-NoOp in
-    let number = c.reason_number in
+    let number = c.into in
     let whole =
     no-op-stored a.out.now word.new.out digits.new.out a.at word.result digits.result a.answer arm.r number.result arm.is
     number.ensures.0 word.ensures digits.ensures.stored digits.ensures.short
@@ -32,7 +32,7 @@ returns-in-Refused c =
     let arm = c.in-Refused in
     let word = c.put_word-next-in-Refused in
     let digits = c.put_decimal-in-Refused in
-    let number = c.refusal_number in
+    let number = c.into-in-Refused in
     let whole =
     refused-stored a.out.now word.new.out digits.new.out a.at word.result digits.result a.answer arm.r number.result arm.is
     number.ensures.0 word.ensures digits.ensures.stored digits.ensures.short

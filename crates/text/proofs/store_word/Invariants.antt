@@ -5,7 +5,7 @@ use lib.Seq.{sets}
 use Rattle.text.proofs.store_word.Given as goal
 
 abbrev pub invariant-loop-i : goal.invariant-loop-i
-invariant-loop-i l = (l.i-end ≡ length l.word) × (l.i ≤ length l.word) × (l.out ≡ sets l.initial.out l.at (take l.i l.word))
+invariant-loop-i l = (l.i ≤ length l.word) × (l.out ≡ sets l.initial.out l.at (take l.i l.word))
 
 abbrev pub decreases-loop-i : goal.decreases-loop-i
 decreases-loop-i l = l.i-end - l.i

@@ -7,5 +7,5 @@ pub returns : goal.returns
 returns c =
     let a = c.args in
     stored_front a.out.now c.refused_line.new.out (refused_line (file_refusal_number a.refusal)) c.refused_line.result
-    (refused-stored a.out.now c.refused_line.new.out 0 c.file_refusal_number-number.result c.refused_line.result a.refusal
-    c.file_refusal_number-number.ensures.0 c.refused_line.ensures)
+    (refused-stored a.out.now c.refused_line.new.out 0 c.from.result c.refused_line.result a.refusal
+    c.from.ensures.0 c.refused_line.ensures)

@@ -36,8 +36,8 @@ returns c =
     let lent = lent-calls m a.part.now k c.sound_records-k.ensures c.run_of-m.ensures.1 in
     let out = c.run-at.new.out in
     let refusal = c.fault_at.result in
-    let stored = refused-stored out c.refused_line.new.out c.run-at.result c.file_refusal_number-number.result c.refused_line.result refusal
-    c.file_refusal_number-number.ensures.0 c.refused_line.ensures
+    let stored = refused-stored out c.refused_line.new.out c.run-at.result c.from-number.result c.refused_line.result refusal
+    c.from-number.ensures.0 c.refused_line.ensures
     in
     runs-stop m a.left a.first c.run_of-m.ensures.0 a.state.now a.part.now a.out.now
     c.run-at.new.state out k c.run-at.result _

@@ -1,17 +1,15 @@
-use mathlib.Core.Path.{sym, ◌∙◌}
+use mathlib.Core.Path.{sym, ap, ◌∙◌}
 use lib.ListN.{length}
-use borrow.Author.Tests.{eq-eqb, ne_eqb}
-use Rattle.number.proofs.Tests.{pick_true, pick_false}
+use borrow.Author.Tests.{eq-eqb}
+use Rattle.number.proofs.Tests.{pick_true}
+use Rattle.isa.specs.Effect.{applied}
+use Rattle.isa.specs.Vecfp as Vecfp
 use Rattle.vecfp.proofs.step.Goals as goal
-
-pub returns-then-state-ne5120 : goal.returns-then-state-ne5120
-returns-then-state-ne5120 c =
-    let other = ne_eqb (length c.args.state.now) 5120 c.if-state-ne5120.true in
-    (sym (pick_false _ _ other), sym (pick_false _ _ other))
 
 pub returns : goal.returns
 returns c =
-    let right = eq-eqb (length c.args.state.now) 5120 c.if-state-ne5120.false in (
-      c.each_vector.ensures ∙ sym (pick_true _ _ right),
+    let a = c.args in
+    let right = eq-eqb (length a.state.now) 5120 c.in-Some.ensures.cases.long in (
+      c.each_vector.ensures ∙ ap (applied (Vecfp.vecfp a.generation a.op)) c.in-Some.ensures.cases.same ∙ sym (pick_true _ _ right),
       c.bytes_enabled.ensures ∙ sym (pick_true _ _ right),
     )

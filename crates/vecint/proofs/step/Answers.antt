@@ -1,7 +1,7 @@
 use Rattle.std.proofs.Common.{◌||◌, length, sym, ◌∙◌, arith, eq-eqb, ne_eqb}
 use Rattle.number.proofs.Tests.{pick_true, pick_false}
 use Rattle.isa.specs.Vecint as Vecint
-use Rattle.masks.proofs.Lanes.{lanes-of_rule}
+use Rattle.masks.proofs.Bools.{lanes-of_rule}
 use Rattle.vecint.proofs.step.Goals as goal
 
 pub returns-then-state-ne5120 : goal.returns-then-state-ne5120
@@ -14,7 +14,7 @@ each_vector-requires c =
     let a = c.args in (
       c.if-state-ne5120.false,
       lanes-of_rule (λ k. Vecint.several a.generation a.op || Vecint.masked a.op k) 64 64 c.vecint_mask-mask.result _ (omega arith)
-          c.vecint_mask-mask.ensures c.lanes64-on.ensures,
+          c.vecint_mask-mask.ensures c.lanes-on.ensures,
     )
 
 pub returns : goal.returns

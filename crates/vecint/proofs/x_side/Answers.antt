@@ -6,7 +6,6 @@ returns c =
     λ i. record {
       wide = eqb (c.x_width.ensures.0 i) 2;
       sign = c.flag.ensures i;
-      fixed = c.broadcasts.ensures i;
-      lane = 0;
+      fixed = c.fixed_x.ensures i;
       halved = eqb (c.y_width.ensures.0 i) 1;
     }

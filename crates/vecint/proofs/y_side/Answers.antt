@@ -7,6 +7,5 @@ returns c =
       wide = eqb (c.y_width.ensures.0 i) 2;
       sign = c.flag.ensures i;
       fixed = c.fixed_y.ensures i;
-      lane = c.lane_y.ensures i;
       halved = eqb (c.x_width.ensures.0 i) 1;
     }

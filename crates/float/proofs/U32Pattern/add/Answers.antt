@@ -1,0 +1,8 @@
+use lib.Ieee.{binary32}
+use Rattle.float.proofs.Ops.{added_is}
+use Rattle.float.proofs.U32Pattern.add.Goals as goal
+
+pub returns : goal.returns
+returns c =
+    let a = c.args in
+    added_is binary32 a.self a.other c.value32.ensures c.value32-2.ensures c.pattern32.ensures

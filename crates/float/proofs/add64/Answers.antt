@@ -1,8 +1,0 @@
-use lib.Ieee.{binary64}
-use Rattle.float.proofs.Ops.{added_is}
-use Rattle.float.proofs.add64.Goals as goal
-
-pub returns : goal.returns
-returns c =
-    let a = c.args in
-    added_is binary64 a.a a.b c.value64.ensures c.value64-2.ensures c.pattern64.ensures

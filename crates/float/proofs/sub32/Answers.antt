@@ -1,8 +1,0 @@
-use lib.Ieee.{binary32}
-use Rattle.float.proofs.Ops.{subtracted-is}
-use Rattle.float.proofs.sub32.Goals as goal
-
-pub returns : goal.returns
-returns c =
-    let a = c.args in
-    subtracted-is binary32 a.a a.b c.value32.ensures c.value32-2.ensures c.pattern32.ensures

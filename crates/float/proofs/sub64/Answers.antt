@@ -1,8 +1,0 @@
-use lib.Ieee.{binary64}
-use Rattle.float.proofs.Ops.{subtracted-is}
-use Rattle.float.proofs.sub64.Goals as goal
-
-pub returns : goal.returns
-returns c =
-    let a = c.args in
-    subtracted-is binary64 a.a a.b c.value64.ensures c.value64-2.ensures c.pattern64.ensures

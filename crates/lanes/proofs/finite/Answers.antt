@@ -1,0 +1,17 @@
+use Rattle.std.proofs.Common.{map, subst, sym, arith}
+use Rattle.std.proofs.lemmas.List.{get_or-map}
+use Rattle.float.specs.Floats.{Finite}
+use Rattle.lanes.proofs.Counted.{counted-more}
+use Rattle.lanes.proofs.finite.Goals as goal
+
+pub loop-l-preserved : goal.loop-l-preserved
+loop-l-preserved g c =
+    let a = c.args.a.now in
+    let p = g.T.Lane.bits in
+    let l = c.loop-l.l in
+    let one = c.special-special.ensures in
+    let here = get_or-map p a l c.index-a-l.result 0 (omega (arith, c.told-a, c.loop-l-test.true)) in (
+      omega (arith, c.loop-l-test.true),
+      counted-more g.T.Pattern.format (map p a) l c.loop-l.special c.special-special.result one.0
+          (λ e. subst (Finite g.T.Pattern.format) (sym here) (one.1 e)) c.loop-l.invariant.1,
+    )

@@ -1,6 +1,0 @@
-use Rattle.std.proofs.Common.{ℕ, ◌%◌, ◌^◌, ap, ◌∙◌, to_z-of_z}
-use Rattle.number.proofs.Range.{wrap-low}
-use Rattle.number.proofs.wrapped32.Goals as goal
-
-pub returns : goal.returns
-returns c = ap (λ (n : ℕ). n % 2 ^ 32) (rw (to_z-of_z c.ranges.v) at c.bits64.ensures) ∙ wrap-low 32 32 c.args.v

@@ -1,9 +1,0 @@
-use Rattle.state.proofs.Numbers.{Stored}
-use Rattle.std.proofs.Common.{◌-◌, refl}
-use Rattle.state.proofs.put_row64.Given as goal
-
-abbrev pub invariant-loop-l : goal.invariant-loop-l
-invariant-loop-l l = Stored 8 8 refl l.row l.values l.on l.initial.state l.l l.state
-
-abbrev pub decreases-loop-l : goal.decreases-loop-l
-decreases-loop-l l = 8 - l.l
