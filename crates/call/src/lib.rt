@@ -210,7 +210,8 @@ fn mac16_operand(op: u64) -> u64
     )
 }
 
-// By the vectors, the ALU mode, the load (bit 52 is the ALU mode's where no load is indexed) and the rows that a vector is dealt to.
+// By the vectors, the ALU mode, the load (bit 52 is the ALU mode's where no load is indexed) and the rows that a vector is dealt to. In two tables,
+// since the compiler makes straight lines of one of eight fields and a loop of one of sixteen.
 fn vecint_operand(generation: u64, op: u64) -> u64
     ensures { result ≡ cleared_all (vecint_ignored generation op) op }
 {
@@ -218,7 +219,7 @@ fn vecint_operand(generation: u64, op: u64) -> u64
     let saturates = operand::saturates(op);
     let reduces = operand::reduces(op);
     let rows = operand::rows_each(op);
-    clear_all(
+    let kept = clear_all(
         op,
         &[
             (true, 57, 57),
@@ -229,6 +230,11 @@ fn vecint_operand(generation: u64, op: u64) -> u64
             (generation == 1, 31, 31),
             (several, 35, 40),
             (several && operand::flag(op, 25), 24, 24),
+        ],
+    );
+    clear_all(
+        kept,
+        &[
             (saturates, 58, 62),
             (saturates, 42, 45),
             (reduces, 27, 28),
