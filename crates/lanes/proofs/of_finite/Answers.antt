@@ -24,29 +24,29 @@ float_from_bits-x c = finite_number binary64 c.args.a c.requires.0
 pub float_from_bits-result : goal.float_from_bits-result
 float_from_bits-result c = finite_number binary64 c.args.b (second c.args.b c.in-Sum.is c.requires.1 refl)
 
-pub float_to_bits-result : goal.float_to_bits-result
-float_to_bits-result c = sum-finite binary64 c.args.a c.args.b c.requires.0 (second c.args.b c.in-Sum.is c.requires.1 refl)
-
 pub returns-in-Sum : goal.returns-in-Sum
 returns-in-Sum c = by_kind c.args.a c.args.b c.in-Sum.is (added-same binary64 c.args.a c.args.b)
+
+pub float_to_bits-result : goal.float_to_bits-result
+float_to_bits-result c = sum-finite binary64 c.args.a c.args.b c.requires.0 (second c.args.b c.in-Sum.is c.requires.1 refl)
 
 pub float_from_bits-result-in-Difference : goal.float_from_bits-result-in-Difference
 float_from_bits-result-in-Difference c = finite_number binary64 c.args.b (second c.args.b c.in-Difference.is c.requires.1 refl)
 
-pub float_to_bits-result-in-Difference : goal.float_to_bits-result-in-Difference
-float_to_bits-result-in-Difference c = difference-finite binary64 c.args.a c.args.b c.requires.0 (second c.args.b c.in-Difference.is c.requires.1 refl)
-
 pub returns-in-Difference : goal.returns-in-Difference
 returns-in-Difference c = by_kind c.args.a c.args.b c.in-Difference.is (subtracted-same binary64 c.args.a c.args.b)
+
+pub float_to_bits-result-in-Difference : goal.float_to_bits-result-in-Difference
+float_to_bits-result-in-Difference c = difference-finite binary64 c.args.a c.args.b c.requires.0 (second c.args.b c.in-Difference.is c.requires.1 refl)
 
 pub float_from_bits-result-in-Product : goal.float_from_bits-result-in-Product
 float_from_bits-result-in-Product c = finite_number binary64 c.args.b (second c.args.b c.in-Product.is c.requires.1 refl)
 
-pub float_to_bits-result-in-Product : goal.float_to_bits-result-in-Product
-float_to_bits-result-in-Product c = product-finite binary64 c.args.a c.args.b c.requires.0 (second c.args.b c.in-Product.is c.requires.1 refl)
-
 pub returns-in-Product : goal.returns-in-Product
 returns-in-Product c = by_kind c.args.a c.args.b c.in-Product.is (multiplied-same binary64 c.args.a c.args.b)
+
+pub float_to_bits-result-in-Product : goal.float_to_bits-result-in-Product
+float_to_bits-result-in-Product c = product-finite binary64 c.args.a c.args.b c.requires.0 (second c.args.b c.in-Product.is c.requires.1 refl)
 
 pub returns-then-x : goal.returns-then-x
 returns-then-x c = by_kind c.args.a c.args.b c.in-Choice.is (selected-is binary64 c.args.a c.args.b _ true refl c.if-x.true)
