@@ -8,9 +8,9 @@ use native.Mathlib.Nat.{mod-eq_of_lt}
 use lib.Dec.{eqb}
 use lib.ListN.{length, drop}
 use lib.Seq.{take_at}
-use borrow.Author.Tests.{eq-eqb}
+use borrow.Author.Tests.{eq-eqb, ne_eqb}
 use Rattle.number.specs.Bytes.{span, byte_at, number}
-use Rattle.number.proofs.Tests.{either, pick_true}
+use Rattle.number.proofs.Tests.{either, pick_true, pick_false}
 use Rattle.std.specs.Prelude.{Result, Ok, Err}
 use Rattle.isa.specs.declared.NotDone.{NotDone}
 use Rattle.isa.specs.declared.NotDone.TheVariants as not_done
@@ -18,7 +18,7 @@ use Rattle.isa.specs.declared.Answer.{Answer}
 use Rattle.isa.specs.declared.Answer.TheVariants.{Done, NoOp, Refused}
 use Rattle.isa.specs.State.{registers_of, count_of, last_count, state_of}
 use Rattle.isa.specs.Effect.{Effect, nothing, applied, bytes_on}
-use Rattle.isa.specs.Call.{Call, effect_of}
+use Rattle.isa.specs.Call.{Call, call, Instruction, other, instruction_by, effect_by, effect_of}
 use Rattle.isa.specs.Answers.{Row, rows_above, first_of, passed, answer_by, answer_of, taken}
 use Rattle.isa.specs.Step.{stepped}
 use Rattle.isa.proofs.Rows.{AllRows, above_all}
@@ -40,6 +40,12 @@ module _ (s t : List ℕ) (r : ℕ) where
   By e = (t ≡ cond (eqb (length s) 5120) (applied e s) s) × (r ≡ cond (eqb (length s) 5120) (bytes_on e) 0)
 
 -- another number does nothing
+pub effect_other : (i gen op : ℕ) → (i ≡ 14 → ⊥) → (i ≡ 18 → ⊥) → (i ≡ 19 → ⊥) → (i ≡ 11 → ⊥) → effect_of (call i gen op) ≡ nothing
+effect_other i gen op not14 not18 not19 not11 = ap (λ (k : Instruction). effect_by k gen op) is-other
+  where
+    is-other : instruction_by i ≡ other
+    is-other = pick_false _ _ (ne_eqb i 14 not14) ∙ pick_false _ _ (ne_eqb i 18 not18) ∙ pick_false _ _ (ne_eqb i 19 not19) ∙ pick_false _ _ (ne_eqb i 11 not11)
+
 pub left_by_nothing : (s : List ℕ) → cond (eqb (length s) 5120) (applied nothing s) s ≡ s
 left_by_nothing s = either (λ (l : List ℕ). l ≡ s) (eqb (length s) 5120) (applied-nothing s) refl
 

@@ -210,15 +210,15 @@ fn mac16_operand(op: u64) -> u64
     )
 }
 
-// By the vectors, the ALU mode, the load (bit 52 is the ALU mode's where no load is indexed) and the rows that a vector is dealt to.
+// By the vectors, the ALU mode, the load (bit 52 is the ALU mode's where no load is indexed) and the rows that a vector is dealt to. In short tables,
+// of which the compiler makes straight lines; of one of sixteen fields it makes a loop.
 fn vecint_operand(generation: u64, op: u64) -> u64
     ensures { result ≡ cleared_all (vecint_ignored generation op) op }
 {
-    let several = operand::several(generation, op);
     let saturates = operand::saturates(op);
     let reduces = operand::reduces(op);
     let rows = operand::rows_each(op);
-    clear_all(
+    let always = clear_all(
         op,
         &[
             (true, 57, 57),
@@ -227,8 +227,16 @@ fn vecint_operand(generation: u64, op: u64) -> u64
             (true, 19, 19),
             (true, 9, 9),
             (generation == 1, 31, 31),
-            (several, 35, 40),
-            (several && operand::flag(op, 25), 24, 24),
+        ],
+    );
+    let kept = if operand::several(generation, op) {
+        clear_all(always, &[(true, 35, 40), (operand::flag(op, 25), 24, 24)])
+    } else {
+        always
+    };
+    clear_all(
+        kept,
+        &[
             (saturates, 58, 62),
             (saturates, 42, 45),
             (reduces, 27, 28),

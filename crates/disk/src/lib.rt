@@ -20,7 +20,7 @@ use std::ops::ControlFlow;
 use std::{fmt, io};
 
 // Why a file is not printed: it cannot be read, or standard output cannot be written.
-#[derive(Drop)]
+#[derive(Clone, Copy)]
 pub enum Failure {
     Unreadable(io::Error),
     Unwritable(io::Error),

@@ -33,6 +33,9 @@ module _ (s : List ℕ) where
       let size : e - a ≡ n = omega (arith, f) in
       ap (λ (k : ℕ). take k (drop a s)) size ∙ part-from a n (omega (arith, f, h))
 
+  pub whole_from : (n : ℕ) → length s ≡ n → bytes_from s 0 n ≡ s
+  whole_from n e = sym (part-from 0 n (omega (arith, e))) ∙ take_all n s (omega (arith, e))
+
 -- bytes written to a part of a list
 pub put-sets : (l vs : List ℕ) (a k : ℕ) → length vs ≡ k → a + k ≤ length l → put_mid a k l vs ≡ sets l a vs
 put-sets l vs a k e h =

@@ -287,6 +287,6 @@ pub fn put_checkpoint(out: &mut [u8], consumed: u64, state: &[u8]) -> usize
         return 0;
     }
     consumed.put(out, 0);
-    out[4..5132].copy_from_slice(state);
+    copy_bytes(state, 0, &mut out[4..5132]);
     5132
 }

@@ -1,5 +1,6 @@
 // Masks: the lanes that an enable mode enables, as one number whose bit k tells of lane k. A mask has 64 places, as many as any form has lanes;
-// those past a form's lanes have what the rule says there, and neither a row nor a count takes them in. Every open function takes every argument.
+// those past a form's lanes have what the rule says there, and neither a row nor a count takes them in. Every open function takes every argument;
+// that N is at most 64 is of the type.
 #![tactic(auto)]
 
 ghost use Rattle.std.specs.Prelude.{◌≡◌, cond, ◌||◌, ◌%◌, ◌<◌, ◌≤◌, ltb, eqb};
@@ -231,5 +232,10 @@ pub fn lanes<const N: usize>(mask: u64) -> [bool; N]
     if mask == ALL {
         return [true; N];
     }
-    std::array::from_fn(|k| is_on(mask, k))
+    std::array::from_fn(
+        |k| -> bool
+            requires { k < 64 }
+            ensures { result ≡ bit mask k }
+        { is_on(mask, k) },
+    )
 }

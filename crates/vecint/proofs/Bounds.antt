@@ -19,6 +19,10 @@ place_in n l q c hl hq h =
     let place : l * c + q < n * c = digits_lt hl hq in
     omega arith
 
+-- where a lane of a row lies
+pub lane-at : (row x : ℕ) → row < 64 → 1024 + row % 64 * 64 + x ≡ 1024 + (row * 64 + x)
+lane-at row x h = omega arith
+
 -- a vector has at most as many lanes as a mask has places
 pub few-lanes : (op : ℕ) → vector_lanes op ≤ 64
 few-lanes op =

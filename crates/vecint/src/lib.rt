@@ -116,16 +116,12 @@ fn row_in<T: Accumulated, const N: usize>(
     requires { (length state.old ≡ register_bytes) × (row < 64) × (q < c) × (N * c ≤ 64) × (N * T.Lane.BYTES ≡ 64) }
     ensures { state.new ≡ applied (row_of T.wide row q c terms.now on.now how) state.old }
 {
+    // modulo 64, by which the compiler sees that each lane lies in the state
+    let start = 1024 + row % 64 * 64;
     // by the index, which gives each lane its place
     for l in 0..N {
         let k = l * c + q;
-        lane::<T>(
-            state,
-            1024 + (row * 64 + l * T::BYTES),
-            terms[k],
-            on[k],
-            how,
-        );
+        lane::<T>(state, start + l * T::BYTES, terms[k], on[k], how);
     }
 }
 

@@ -1,7 +1,7 @@
 use native.Mathlib.Omega.{arith}
 use mathlib.Core.Path.{sym, ◌∙◌}
 use lib.Seq.{length-take-le}
-use Rattle.file.proofs.States.{load_start_lem}
+use Rattle.file.proofs.States.{load-part}
 use Rattle.file.proofs.load_start.Goals as goal
 
 pub slice_bounds-copy_bytes-end-2 : goal.slice_bounds-copy_bytes-end-2
@@ -14,5 +14,5 @@ pub returns : goal.returns
 returns c =
     let a = c.args in
     c.put.ensures
-    ∙ load_start_lem a.head.now a.state.now c.copy_bytes.new.out c.contents_length.result c.if-state-ne5128.false
+    ∙ load-part a.head.now a.state.now c.copy_bytes.new.out c.contents_length.result c.if-state-ne5128.false
     c.contents_length.ensures.0 c.copy_bytes.ensures

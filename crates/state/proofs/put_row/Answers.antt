@@ -21,15 +21,6 @@ pub overflow_add-row-in-loop-l-2 : goal.overflow_add-row-in-loop-l-2
 overflow_add-row-in-loop-l-2 g c =
     omega (arith, ap (λ (b : ℕ). c.loop-l.l * b) c.BYTES.ensures, lane_fits g.T.Lane.BYTES g.row.N c.requires c.loop-l.l c.loop-l-test.true)
 
-pub store-requires : goal.store-requires
-store-requires g c =
-    omega (
-      arith,
-      c.loop-l.invariant.1.1.size,
-      ap (λ (b : ℕ). c.loop-l.l * b) c.BYTES.ensures,
-      lane_fits g.T.Lane.BYTES g.row.N c.requires c.loop-l.l c.loop-l-test.true,
-    )
-
 pub loop-l-init : goal.loop-l-init
 loop-l-init g c =
     let a = c.args in (

@@ -3,7 +3,7 @@ use borrow.Author.Rules.{sfits_of}
 use Rattle.vecint.specs.Accumulation.{z_bytes, accumulate, lane_stored}
 use Rattle.state.proofs.Dealing.{lanes-none, lanes-more, lanes_all}
 use Rattle.reduction.proofs.Cases.{lane-inside}
-use Rattle.vecint.proofs.Bounds.{place_in}
+use Rattle.vecint.proofs.Bounds.{place_in, lane-at}
 use Rattle.vecint.proofs.row_in.Goals as goal
 
 pub loop-l-init : goal.loop-l-init
@@ -29,14 +29,16 @@ loop-l-preserved g c =
     let wide = g.T.Accumulated.wide in
     let fit = c.loop-l.invariant.1.0 in
     let k = c.loop-l.l * a.c + a.q in
-    let width = c.BYTES.ensures ∙ sym g.met.T.Accumulated.width in (
+    let width = c.BYTES.ensures ∙ sym g.met.T.Accumulated.width in
+    let place =
+    lane-at a.row (c.loop-l.l * c.BYTES.result) c.requires.1 ∙ ap (λ (b : ℕ). 1024 + (a.row * 64 + c.loop-l.l * b)) width in (
       omega (arith, c.loop-l-test.true),
       (
         fit,
         lanes-more (z_bytes wide) g.row.N fit a.row (λ l. get_or a.on.now (l * a.c + a.q) false)
             (λ l. accumulate wide a.how a.terms.now (l * a.c + a.q)) a.state.now c.loop-l.l c.loop-l.state c.lane.new.state
             (λ p. (c.slice_known-1.given p).fits) c.requires.1 c.loop-l-test.true c.loop-l.invariant.1.1
-            (c.lane.ensures ∙ (λ i. lane_stored wide a.how c.loop-l.state (1024 + (a.row * 64 + c.loop-l.l * width i))
+            (c.lane.ensures ∙ (λ i. lane_stored wide a.how c.loop-l.state (place i)
             (to_z-of_z {w = w32} {z = get_or a.terms.now k (pos 0)} (sfits_of c.lane-arg-in-loop-l-1.given) i) (get_or a.on.now k false))),
       ),
       λ p. (c.slice_known-in-loop-l-1.given p).fits,
@@ -78,18 +80,8 @@ overflow_mul-l g c =
           c.args.row c.loop-l-test.true r.4 c.BYTES.ensures r.1,
     )
 
-pub overflow_add-row : goal.overflow_add-row
-overflow_add-row g c =
-    let r = c.requires in
-    omega (
-      arith,
-      r.1,
-      lane-inside c.loop-l.l g.row.N g.T.Lane.BYTES c.BYTES.result
-          c.args.row c.loop-l-test.true r.4 c.BYTES.ensures r.1,
-    )
-
-pub overflow_add-row-in-loop-l : goal.overflow_add-row-in-loop-l
-overflow_add-row-in-loop-l g c =
+pub overflow_add-start-in-loop-l : goal.overflow_add-start-in-loop-l
+overflow_add-start-in-loop-l g c =
     let r = c.requires in
     omega (
       arith,

@@ -1,6 +1,6 @@
 use Rattle.number.proofs.Slice.{stores_1, stored}
 use Rattle.std.proofs.Common.{◌≡◌, ℕ, ◌+◌, ◌/◌, ◌%◌, List, get_or, ap, ◌∙◌, arith}
-use Rattle.number.proofs.U16Lane.store.Goals as goal
+use Rattle.number.proofs.U16Whole.keep.Goals as goal
 
 low : (c : goal.After-to_le_bytes) → get_or c.to_le_bytes.result 0 0 ≡ c.args.self % 256
 low c = ap (λ (bs : List ℕ). get_or bs 0 0) c.to_le_bytes.ensures
